@@ -1,0 +1,18 @@
+-- Lists of bytes, their parts, and numbers as bytes.
+use Rattle.std.specs.Prelude.{ℕ, ◌<◌, List, slice_index, take, drop}
+use Rattle.std.specs.Int.{w16, w64, to_be_bytes}
+
+-- a byte is a number below 256
+abbrev pub AreBytes : List ℕ → Type 0
+AreBytes xs = (i : ℕ) → slice_index xs i < 256
+
+-- n bytes from place at on
+abbrev pub part : ℕ → ℕ → List ℕ → List ℕ
+part at n bytes = take n (drop at bytes)
+
+-- a number in 2 and in 8 bytes, the high byte first (network order)
+unfoldable pub bytes_2 : ℕ → List ℕ
+bytes_2 n = to_be_bytes w16 n
+
+unfoldable pub bytes_8 : ℕ → List ℕ
+bytes_8 n = to_be_bytes w64 n

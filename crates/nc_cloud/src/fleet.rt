@@ -1,0 +1,109 @@
+ghost use Rattle.std.specs.Prelude.{◌≡◌, ◌≢◌, ◌<◌, ℕ, All, AllPairs, map};
+ghost use Rattle.nc_frame.specs.Frames.{Whole};
+ghost use Rattle.nc_cloud.specs.Contents.{Contents, Rose, Leaves, Grows};
+ghost use Rattle.nc_cloud.specs.Fleet.{asked, places, touches, Answers};
+ghost use Rattle.nc_cloud.specs.declared.fleet.Answer.TheVariants.{Waiting as Unanswered, Failed as NoAnswer};
+ghost use Rattle.nc_cloud.specs.declared.fleet.Done.TheVariants.{Waiting, Failed};
+
+use nc_name::{Blob, Key};
+
+/// What a cloud answered to an `Ask`.
+#[derive(Debug, Drop)]
+pub enum Answer {
+    /// Not asked yet. No entry stands so after its round.
+    Waiting,
+    /// The object.
+    Bytes(Blob),
+    /// There is none.
+    Absent,
+    /// There is one, longer than was asked for.
+    Long,
+    /// The cloud failed.
+    Failed,
+    /// No memory was found.
+    Memory,
+}
+
+/// A get of one object: at most `most` bytes of it.
+#[derive(Debug, Drop)]
+pub struct Ask {
+    pub cloud: u8,
+    pub key: Key,
+    pub most: u64,
+    pub answer: Answer,
+}
+
+/// How a write ended.
+#[derive(Clone, Copy, Debug, PartialEq, Eq)]
+pub enum Done {
+    /// Not begun yet. No entry stands so after its round.
+    Waiting,
+    /// The object is written.
+    Ok,
+    /// The cloud failed; the object may be old, new, gone or torn.
+    Failed,
+    /// No memory was found; the object may be old, new, gone or torn.
+    Memory,
+}
+
+/// A write of one object: a whole frame.
+#[derive(Debug, Drop)]
+pub struct Job {
+    pub cloud: u8,
+    pub key: Key,
+    pub bytes: Blob,
+    pub done: Done,
+}
+
+/// All clouds. A round serves at most one entry for each cloud.
+pub trait Fleet {
+    /// What the caller has to know of the type: where threads serve the rounds, that they may share the runtime.
+    ghost ready: { Type 0 } = { Unit {0} };
+
+    /// How many clouds there are.
+    ghost clouds: { Self → ℕ };
+
+    /// The fleet says what its clouds hold.
+    ghost tells: { Type 0 } = { ⊥ };
+
+    /// What each cloud holds under each key, where the fleet tells.
+    ghost held: { Self → Contents };
+
+    /// How many gets and puts of a cloud have failed.
+    ghost faults: { Self → ℕ → ℕ };
+
+    /// These counts rise at entries that failed, and at no others.
+    ghost counts_exactly: { Type 0 } = { ⊥ };
+
+    /// The number of clouds, which never changes.
+    fn width(&self) -> usize
+        ensures { result ≡ clouds self.now };
+
+    /// Asks for an object of each of some clouds. The answers stand in the entries afterwards.
+    fn get_round(&mut self, asks: &mut [Ask])
+        requires ready { ready }
+        requires below { All (λ a. a.cloud < clouds self.old) asks.old }
+        requires once { AllPairs (λ a b. a.cloud ≢ b.cloud) asks.old }
+        ensures entries { map asked asks.new ≡ map asked asks.old }
+        ensures answered { All (λ a. a.answer ≢ Unanswered) asks.new }
+        ensures told { tells → All (λ a. Answers a (held self.old a.cloud a.key)) asks.new }
+        ensures failed { All (λ a. a.answer ≡ NoAnswer → Rose (faults self.old a.cloud) (faults self.new a.cloud)) asks.new }
+        ensures exact { counts_exactly → (c : ℕ) → All (λ a. a.cloud ≡ c → a.answer ≢ NoAnswer) asks.new → faults self.new c ≡ faults self.old c }
+        ensures clouds { clouds self.new ≡ clouds self.old }
+        ensures held { held self.new ≡ held self.old }
+        ensures grows { Grows (faults self.old) (faults self.new) };
+
+    /// Writes an object on each of some clouds. How each ended stands in the entries afterwards.
+    fn put_round(&mut self, jobs: &mut [Job])
+        requires ready { ready }
+        requires below { All (λ j. j.cloud < clouds self.old) jobs.old }
+        requires once { AllPairs (λ a b. a.cloud ≢ b.cloud) jobs.old }
+        requires whole { All (λ j. Whole j.bytes) jobs.old }
+        ensures entries { places jobs.new ≡ places jobs.old }
+        ensures answered { All (λ j. j.done ≢ Waiting) jobs.new }
+        ensures told { tells → Leaves (touches jobs.new) (held self.old) (held self.new) }
+        ensures failed { All (λ j. j.done ≡ Failed → Rose (faults self.old j.cloud) (faults self.new j.cloud)) jobs.new }
+        ensures exact { counts_exactly → (c : ℕ) → All (λ j. j.cloud ≡ c → j.done ≢ Failed) jobs.new → faults self.new c ≡ faults self.old c }
+        ensures clouds { clouds self.new ≡ clouds self.old }
+        ensures grows { Grows (faults self.old) (faults self.new) };
+}

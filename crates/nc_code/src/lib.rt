@@ -1,0 +1,2 @@
+//! Codes, repair plans and witnesses.
+#![tactic(auto)]

@@ -1,0 +1,2 @@
+//! Sealed objects.
+#![tactic(auto)]

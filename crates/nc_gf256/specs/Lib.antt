@@ -1,0 +1,3 @@
+pub mod Field
+pub mod Rows
+pub mod Width

@@ -1,0 +1,10 @@
+//! The names of files, the keys of the objects that a file is stored as, and byte strings on the heap.
+#![tactic(auto)]
+
+mod blob;
+mod key;
+mod name;
+
+pub use blob::{Blob, Memory};
+pub use key::Key;
+pub use name::Name;

@@ -1,0 +1,2 @@
+//! Cutting a file into native chunks, and joining them.
+#![tactic(auto)]
