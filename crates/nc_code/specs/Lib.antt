@@ -1,3 +1,4 @@
 pub mod Parts
 pub mod Codes
 pub mod Striped
+pub mod Good

@@ -1,0 +1,4 @@
+mod Cases
+mod Adding
+pub mod FieldLaws
+mod PowerLemmas
