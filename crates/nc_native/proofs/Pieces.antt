@@ -8,7 +8,8 @@ use Rattle.std.proofs.lemmas.Grind.{common_steps, div_ceil_times, same_number_li
 use Rattle.std.specs.List.{range_with_len, concat}
 use Rattle.nc_bytes.specs.Bytes.{AreBytes}
 use Rattle.nc_gf256.specs.Width.{native_count}
-use Rattle.nc_native.specs.Native.{piece, native, natives_of, native_len, AllLong, chunk_size}
+use Rattle.nc_native.specs.Native.{piece, native, natives_of, native_len, AllLong, chunk_size, combination}
+use Rattle.nc_gf256.specs.Field.{mul, total}
 
 pub length-piece : (v : List ℕ) (start size : ℕ) → length (piece v start size) ≡ size
 unfolding piece
@@ -95,6 +96,12 @@ all_long v n h i below =
     let some : 0 < native_count n = omega arith in
     natives_long v n i below ∙ sym (natives_long v n 0 (subst (λ m. 0 < m) (sym (natives_count v n)) some))
 
+-- so that is the length of the first
+pub native_len_of : (v : List ℕ) (n : ℕ) → 4 ≤ n → native_len (natives_of v n) ≡ chunk_size (length v) n
+native_len_of v n h =
+    let some : 0 < native_count n = omega arith in
+    natives_long v n 0 (subst (λ m. 0 < m) (sym (natives_count v n)) some)
+
 piece_bytes : (v : List ℕ) (start size : ℕ) → AreBytes v → AreBytes (piece v start size)
 piece_bytes v start size bytes p = elim (cases_lt p size) [
   | inl h ↦ subst (λ x. x < 256) (sym (piece_at v start size p h)) (bytes (start + p))
@@ -125,3 +132,8 @@ native_more v n i k size rest front chunk natives e is so begins ends so_far =
     ends ∙ ap (λ m. front ++ replicate (size - m) 0) long ∙ ap (λ xs. xs ++ replicate (size - k) 0) front_is ∙ padded_piece v (i * size) size k same in
     let chunk_native : chunk ≡ native v n i = chunk_is ∙ ap (λ s. piece v (i * s) s) e in
     ap (λ ns. ns ++ (chunk ∷ [])) so_far ∙ ap (λ x. map (native v n) (range_with_len 0 i) ++ (x ∷ [])) chunk_native ∙ sym (map-range_with_len_more (native v n) 0 i i (omega arith))
+
+-- a combination has the size of a chunk
+pub length-combination : (row v : List ℕ) (n : ℕ) → length (combination row v n) ≡ chunk_size (length v) n
+unfolding combination
+length-combination row v n = length-map-range_with_len (λ p. total (native_count n) (λ i. mul (get_or row i 0) (get_or (native v n i) p 0))) 0 (chunk_size (length v) n)
