@@ -6,6 +6,7 @@ use Rattle.std.proofs.lemmas.List.{get_or_past}
 use Rattle.std.proofs.lemmas.Bool.{cases_lt}
 use Rattle.std.proofs.lemmas.Bool.Decides.{nat_tests}
 use Rattle.nc_gf256.specs.Width.{native_count}
+use Rattle.nc_code.proofs.RowSums.{get_or_zero}
 use Rattle.nc_code.specs.Striped.{striped_entry, striped_row}
 
 entry_past : (n c s i : ℕ) → native_count n ≤ i → striped_entry n c s i ≡ 0
@@ -13,13 +14,6 @@ entry_past n c s i h = grind (arith, nat_tests)
 
 cloud_past : (n c s i : ℕ) → 4 ≤ n → n ≤ c → striped_entry n c s i ≡ 0
 cloud_past n c s i w h = grind (arith, nat_tests)
-
--- what holds of each value of a function holds of each entry that is read from its list, past its end too
-get_or_zero : (f : ℕ → ℕ) (k : ℕ) → f k ≡ 0 → get_or (map f (range_with_len 0 16)) k 0 ≡ 0
-get_or_zero f k h = elim (cases_lt k 16) [
-  | inl below ↦ get_or-map-range_with_len f 0 16 k k 0 below (omega arith) ∙ h
-  | inr past ↦ get_or_past (map f (range_with_len 0 16)) k 0 (omega (arith, length-map-range_with_len f 0 16))
-]
 
 abbrev pub AreStriped : ℕ → List (List ℕ) → Type 0
 AreStriped n rows = (length rows ≡ 20) × ((k : ℕ) → k < 20 → get_or rows k [] ≡ striped_row n k)

@@ -2,3 +2,4 @@ pub mod Parts
 pub mod Codes
 pub mod Striped
 pub mod Good
+pub mod RepairLaw

@@ -1,4 +1,5 @@
-mod Cases
-mod Adding
+pub mod Cases
+pub mod Adding
 pub mod FieldLaws
-mod PowerLemmas
+pub mod PowerLemmas
+pub mod Sums
