@@ -1,5 +1,6 @@
 ghost use Rattle.std.specs.Prelude.{◌≡◌, ◌+◌, ◌*◌, ◌<◌, ◌≤◌, ℕ, slice_index, bit_xor};
 ghost use Rattle.nc_gf256.specs.Field.{mul};
+ghost use Rattle.nc_code.specs.Parts.{IsCode};
 ghost use Rattle.nc_code.specs.Codes.{repaired, repaired_row, term};
 ghost use Rattle.nc_code.specs.RepairLaw.{RepairedTwice};
 
@@ -11,7 +12,9 @@ use crate::plan::Plan;
 /// past the width are not read.
 pub fn repaired(code: &Code, lost: u8, plan: &Plan) -> Code
     requires { lost < code.now.width }
-    ensures { result ≡ repaired code.now lost plan.now }
+    ensures code { result ≡ repaired code.now lost plan.now }
+    ensures width { result.width ≡ code.now.width }
+    ensures kept { IsCode result }
 {
     let zero = new_row(code, lost, plan, 0);
     let one = new_row(code, lost, plan, 1);

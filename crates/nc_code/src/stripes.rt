@@ -10,6 +10,7 @@ pub fn striped(width: u8) -> Code
     requires wide { 4 ≤ width }
     requires narrow { width ≤ 10 }
     ensures code { result ≡ striped_code width }
+    ensures width { result.width ≡ width }
     ensures kept { IsCode result }
 {
     let mut rows = [[0; 16]; 20];

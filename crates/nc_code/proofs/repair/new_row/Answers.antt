@@ -1,5 +1,4 @@
-use Rattle.std.proofs.Common.{◌≡◌, ◌∙◌, ap, arith, rules, get_or, [], ◌∷◌, ℕ, ◌<◌, sym, refl}
-use Rattle.std.proofs.lemmas.Grind.{common_steps}
+use Rattle.std.proofs.Common.{◌≡◌, ◌∙◌, ap, arith, rules, sym, refl}
 use Rattle.nc_gf256.proofs.Sums.{total_nil}
 use Rattle.nc_code.specs.Codes.{term}
 use Rattle.nc_code.specs.Parts.{CodeParts}

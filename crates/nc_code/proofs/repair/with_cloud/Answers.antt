@@ -1,8 +1,5 @@
-use Rattle.std.proofs.Common.{ap, sym, ◌∙◌, ℕ, List, [], bit_xor, slice_index, slice_index_or}
+use Rattle.std.proofs.Common.{ap, sym, ◌∙◌, bit_xor, slice_index}
 use Rattle.std.specs.Int.Bits.{xor_zero_r}
-use Rattle.nc_gf256.specs.Field.{mul}
-use Rattle.nc_code.specs.Parts.{PlanParts}
-use Rattle.nc_code.specs.Codes.{term, code_row}
 use Rattle.nc_code.proofs.RepairLemmas.{term_lost, term_survivor}
 use Rattle.nc_code.proofs.repair.with_cloud.Goals as goal
 
