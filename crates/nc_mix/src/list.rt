@@ -37,6 +37,14 @@ impl Chunks {
         }
     }
 
+    /// The chunks themselves. It takes no memory.
+    pub fn into_items(self) -> Vec<Blob>
+        ensures { result.items ≡ self }
+    {
+        let Chunks { list } = self;
+        list
+    }
+
     pub fn items(&self) -> &[Blob]
         ensures { result.now ≡ self.now }
     {
