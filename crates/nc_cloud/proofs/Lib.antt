@@ -1,1 +1,5 @@
+pub mod Numbered
+mod RecordLaws
 pub mod Rounds
+mod Served
+mod Serves

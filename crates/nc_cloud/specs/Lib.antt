@@ -1,3 +1,5 @@
 pub mod Contents
 pub mod Fleet
+pub mod Memory
 pub mod Rounds
+pub mod Record
