@@ -3,3 +3,4 @@ mod RecordLaws
 pub mod Rounds
 mod Served
 mod Serves
+pub mod Images

@@ -3,3 +3,4 @@ pub mod Fleet
 pub mod Memory
 pub mod Rounds
 pub mod Record
+pub mod Images
