@@ -1,3 +1,5 @@
 pub mod Parts
 pub mod Codes
 pub mod Striped
+pub mod Good
+pub mod RepairLaw

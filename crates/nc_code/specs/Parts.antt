@@ -13,6 +13,11 @@ pub record PlanParts : Type 0 where
   pub choice : List ℕ
   pub coefs : List (List ℕ)
 
+-- so many bytes
+pub record IsRow (width : ℕ) (row : List ℕ) : Type 0 where
+  pub long : length row ≡ width
+  pub bytes : AreBytes row
+
 -- so many rows of so many bytes
 pub record IsTable (rows width : ℕ) (table : List (List ℕ)) : Type 0 where
   pub count : length table ≡ rows

@@ -1,3 +1,4 @@
 pub mod Field
+pub mod Laws
 pub mod Rows
 pub mod Width

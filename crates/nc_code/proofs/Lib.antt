@@ -1,0 +1,4 @@
+pub mod RepairLemmas
+pub mod RowSums
+pub mod SameParts
+pub mod StripedParts

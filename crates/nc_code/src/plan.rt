@@ -1,0 +1,88 @@
+ghost use Rattle.std.specs.Prelude.{◌≡◌, ◌<◌, ℕ, slice_index};
+ghost use Rattle.nc_code.specs.Parts.{IsPlan, IsTable, IsRow};
+ghost use Rattle.nc_code.specs.Codes.{no_plan};
+ghost use Rattle.nc_code.specs.Good.{plan_of};
+
+use std::marker::Model;
+
+/// How the two rows of a lost cloud are made anew, by survivor `t`: its row `choice[t]`, 0 or 1, is fetched, and
+/// `coefs[r][t]` is its factor in the new row `r`.
+#[derive(Clone, Copy, Debug)]
+pub struct Plan {
+    pub choice: [u8; 10],
+    pub coefs: [[u8; 10]; 2],
+}
+
+impl Model for Plan {
+    ghost use Rattle.nc_code.specs.Parts.{PlanParts, IsPlan};
+
+    ghost Value = { PlanParts };
+
+    ghost view = { λ p. record { choice = p.choice; coefs = p.coefs } };
+
+    ghost invariant = { λ p. IsPlan (record { choice = p.choice; coefs = p.coefs }) };
+
+    ghost inverse = { λ p. record { choice = p.choice; coefs = p.coefs } };
+}
+
+/// A plan for each cloud that may be lost next.
+#[derive(Clone, Copy, Debug)]
+pub struct Witnesses {
+    pub plans: [Plan; 10],
+}
+
+impl Plan {
+    /// The plan with all choices and factors 0: it stands where no plan is stored.
+    pub fn none() -> Plan
+        ensures { result ≡ no_plan }
+    {
+        Plan::new(&[0; 10], &[[0; 10]; 2])
+    }
+
+    /// The plan of these choices and factors. Its type's rule is kept by what is asked here.
+    pub fn new(choice: &[u8; 10], coefs: &[[u8; 10]; 2]) -> Plan
+        requires { (t : ℕ) → slice_index choice.now t < 2 }
+        ensures parts { result ≡ record { choice = choice.now; coefs = coefs.now } }
+        ensures kept { IsPlan result }
+    {
+        told_coefs(coefs);
+        Plan {
+            choice: *choice,
+            coefs: *coefs,
+        }
+    }
+
+    /// Tells what the type keeps.
+    pub fn kept(&self)
+        ensures { IsPlan self.now }
+    {
+        let _choice = &self.choice;
+    }
+}
+
+impl Witnesses {
+    /// The plan for the loss of cloud `lost`.
+    pub fn plan(&self, lost: u8) -> &Plan
+        requires { lost < 10 }
+        ensures { result.now ≡ plan_of self.now lost }
+    {
+        &self.plans[lost as usize]
+    }
+}
+
+/// Tells that an array of factors has two rows of ten bytes.
+fn told_coefs(coefs: &[[u8; 10]; 2])
+    ensures { IsTable 2 10 coefs.now }
+{
+    for row in coefs {
+        told_row(row);
+    }
+}
+
+fn told_row(row: &[u8; 10])
+    ensures { IsRow 10 row.now }
+{
+    for b in row {
+        let _byte = *b;
+    }
+}

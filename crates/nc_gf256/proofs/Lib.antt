@@ -1,0 +1,5 @@
+pub mod Cases
+pub mod Adding
+pub mod FieldLaws
+pub mod PowerLemmas
+pub mod Sums

@@ -1,0 +1,2 @@
+pub mod StripedRows
+pub mod StripedMds
