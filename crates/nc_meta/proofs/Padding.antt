@@ -1,7 +1,7 @@
 -- Bytes with zeros after them.
 use Rattle.std.proofs.Common.{arith, refl, sym, ap, ap₂, ◌∙◌, append_assoc, length-append, inl, inr, take-append-drop}
 use Rattle.std.proofs.lemmas.Bool.{cases_lt}
-use Rattle.std.proofs.lemmas.List.{drop-drop, drop_at, get_or-append_right, get_or_append_left, get_or-drop, get_or-replicate, get_or-take, get_or_at, get_or_past, length-drop, length-replicate, length-take, length-take-le, take_at}
+use Rattle.std.proofs.lemmas.List.{append-nil, drop-drop, drop_at, get_or-append_right, get_or_append_left, get_or-drop, get_or-replicate, get_or-take, get_or_at, get_or_past, length-drop, length-replicate, length-take, length-take-le, take_at}
 use Rattle.std.specs.Prelude.{ℕ, ◌≡◌, ◌+◌, ◌-◌, ◌<◌, ◌≤◌, zero, suc, List, [], ◌∷◌, ◌++◌, length, replicate, slice_index, take, drop}
 use Rattle.nc_bytes.specs.Bytes.{part}
 use Rattle.nc_meta.specs.Parts.{padded, of_survivors, spread}
@@ -104,3 +104,8 @@ of_spread n lost bytes within long =
     let rest : length (drop lost bytes) ≡ n - (lost + 1) = omega (arith, length-drop lost bytes) in
     let last = ap (take (n - (lost + 1))) after ∙ take_at (drop lost bytes) zeros (n - (lost + 1)) rest in
     ap₂ (λ (l r : List ℕ). l ++ r) before last ∙ take-append-drop lost bytes
+
+pub padded_full : (size : ℕ) (xs : List ℕ) → length xs ≡ size → padded size xs ≡ xs
+padded_full size xs full =
+    let none : size - length xs ≡ 0 = omega arith in
+    ap (λ n. xs ++ replicate n 0) none ∙ append-nil xs

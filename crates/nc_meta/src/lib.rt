@@ -1,6 +1,8 @@
 //! The metadata of a file, and the payloads that it is stored as.
 #![tactic(auto)]
 
+mod gone;
+mod live;
 mod meta;
 mod plans;
 mod tables;

@@ -1,7 +1,12 @@
-ghost use Rattle.std.specs.Prelude.{◌≡◌, ◌≤◌};
-ghost use Rattle.nc_meta.specs.Metas.{generation_of};
+ghost use Rattle.std.specs.Prelude.{◌≡◌, ◌≤◌, IfOk, IfSome, IfNone};
+ghost use Rattle.nc_meta.specs.declared.meta.Meta.{Meta as MetaValue};
+ghost use Rattle.nc_meta.specs.Metas.{IsMeta, Spells, generation_of};
 
+use crate::gone::{gone_bytes, read_gone};
+use crate::live::{live_bytes, read_live};
 use nc_code::{Code, Witnesses};
+use nc_name::{Blob, Memory};
+use std::alloc::Global;
 
 /// What is stored of a file: it has this content, or it was deleted.
 #[derive(Clone, Copy, Debug)]
@@ -34,6 +39,36 @@ impl Meta {
         match self {
             Meta::Live(live) => live.generation,
             Meta::Gone { generation } => *generation,
+        }
+    }
+
+    /// The payload, at this width.
+    pub fn write(&self, alloc: Global, width: u8) -> Result<Blob, Memory>
+        requires wide { 4 ≤ width }
+        requires narrow { width ≤ 10 }
+        requires fits { IsMeta width self.now }
+        ensures { IfOk result (λ blob. Spells width blob self.now) }
+    {
+        let bytes = match self {
+            Meta::Live(live) => live_bytes(alloc, width, live)?,
+            Meta::Gone { generation } => gone_bytes(alloc, *generation)?,
+        };
+        Ok(Blob::from_vec(bytes))
+    }
+
+    /// The meta whose payload this is, at this width. Whether its code is MDS or its plans are witnesses isn't asked.
+    pub fn read(width: u8, payload: &[u8]) -> Option<Meta>
+        requires wide { 4 ≤ width }
+        requires narrow { width ≤ 10 }
+        ensures some { IfSome result (Spells width payload.now) }
+        ensures none { IfNone result ((meta : MetaValue) → Spells width payload.now meta → ⊥) }
+    {
+        if let Some(generation) = read_gone(payload) {
+            return Some(Meta::Gone { generation });
+        }
+        match read_live(width, payload) {
+            Some(live) => Some(Meta::Live(live)),
+            None => None,
         }
     }
 }
