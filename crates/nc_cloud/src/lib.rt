@@ -5,6 +5,8 @@ mod fleet;
 mod memory;
 mod record;
 mod serving;
+#[cfg(test)]
+mod tests;
 
 pub use fleet::{Answer, Ask, Done, Fleet, Job};
 pub use memory::MemFleet;
