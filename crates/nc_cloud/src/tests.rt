@@ -2,15 +2,13 @@ ghost use Rattle.std.specs.Prelude.{◌≡◌, ◌<◌, ◌≤◌};
 ghost use Rattle.nc_name.specs.Keys.{Slots};
 ghost use Rattle.nc_cloud.specs.Memory.{width_of};
 
-use std::alloc::Global;
-use std::test::Fail;
-
-use nc_frame::seal;
-use nc_name::{Blob, Key, Memory, Name};
-
 use crate::fleet::{Answer, Ask, Done, Fleet, Job};
 use crate::memory::MemFleet;
 use crate::record::Torn;
+use nc_frame::seal;
+use nc_name::{Blob, Key, Memory, Name};
+use std::alloc::Global;
+use std::test::Fail;
 
 fn chunk(name: Name) -> Key
     ensures { Slots result }
