@@ -5,6 +5,7 @@ use Rattle.std.specs.Bool.{Decides}
 use Rattle.std.proofs.lemmas.Bool.Decides.{Decides-eqb, Decides-and, Decides-like, leb_tells}
 use Rattle.std.proofs.lemmas.Bool.{eq-eqb, eqb-true}
 use Rattle.std.proofs.lemmas.Simd.{map-map}
+use Rattle.std.proofs.lemmas.List.Elements.{All-map}
 use Rattle.std.proofs.lemmas.List.{take-append-drop}
 use Rattle.nc_frame.proofs.FrameLaws.{proper_prefixes_are_torn}
 use Rattle.nc_frame.proofs.Shapes.{length-frame}
@@ -25,11 +26,11 @@ use Rattle.nc_cloud.specs.declared.record.Refusal.{Refusal}
 use Rattle.nc_cloud.specs.declared.record.Look.{Look}
 use Rattle.nc_cloud.specs.declared.record.Step.{Step}
 use Rattle.nc_cloud.specs.declared.record.Event.{Event}
-use Rattle.nc_cloud.specs.declared.record.Event.TheVariants.{Gets, Puts}
+use Rattle.nc_cloud.specs.declared.record.Event.TheVariants.{Gets, Puts, Planted}
 use Rattle.nc_cloud.specs.Contents.{Contents, Store, Rose, Settles, ChangesAt, Touch, touch_at, LeavesCloud, Leaves}
 use Rattle.nc_cloud.specs.Contents.Fate.{stayed, became, went, broke}
-use Rattle.nc_cloud.specs.Fleet.{asked, place, places, is_done, touch, touches, Answers, Shows}
-use Rattle.nc_cloud.specs.Record.{numbered, refused_at, done_of, answer_of, is_failed, look_of, step_of, steps_of, key_eq, step_at, left, step_value, value_after, value, contents_after, nothing, answered_ask, answered_asks, done_job, done_jobs, starved_ask, starved_job, tally, failed_in, failures, counted}
+use Rattle.nc_cloud.specs.Fleet.{asked, place, places, is_done, touch, touches, Answers, Shows, is_failed, is_bytes, is_chunk, tally, chunks_got, got_count}
+use Rattle.nc_cloud.specs.Record.{numbered, refused_at, done_of, answer_of, look_of, step_of, steps_of, key_eq, step_at, left, step_value, value_after, value, contents_after, nothing, answered_ask, answered_asks, done_job, done_jobs, starved_ask, starved_job, failed_in, failures, counted, gifts, given_in}
 use Rattle.nc_cloud.specs.Memory.{gets_event, puts_event}
 
 -- ---- keys
@@ -253,6 +254,44 @@ module _ (log : List Event) (refusals : List Refusal) (n : ℕ) (jobs : List Job
   pub puts_grow : (c : ℕ) → counted (failures log c) ≤ counted (failures (log ++ puts_event (steps_of refusals n jobs)) c)
   puts_grow c = subst (λ m. counted (failures log c) ≤ counted m) (sym (failures_after_puts log refusals n jobs c)) (count_grows (failures log c) (tally (failed_job c) (done_jobs refusals n jobs)))
 
+-- ---- chunks that were given
+
+gifts-more : (es : List Event) (e : Event) (c : ℕ) → gifts (es ++ e ∷ []) c ≡ gifts es c + given_in e c
+gifts-more [] e c = omega arith
+gifts-more (f ∷ es) e c = let more : gifts (es ++ e ∷ []) c ≡ gifts es c + given_in e c = gifts-more es e c in omega (arith, more)
+
+gifts_after_gets : (log : List Event) (asks : List Ask) (c : ℕ) → gifts (log ++ gets_event (map look_of asks)) c ≡ gifts log c + chunks_got c asks
+gifts_after_gets log [] c = ap (λ es. gifts es c) (append-nil log) ∙ omega arith
+gifts_after_gets log (a ∷ asks) c =
+    gifts-more log (Gets (map look_of (a ∷ asks))) c
+    ∙ ap (λ n. gifts log c + n) (tally-map (λ l. nat_eq l.cloud c && l.gave_chunk) look_of (a ∷ asks))
+
+gifts_after_puts : (log : List Event) (steps : List Step) (c : ℕ) → gifts (log ++ puts_event steps) c ≡ gifts log c
+gifts_after_puts log [] c = ap (λ es. gifts es c) (append-nil log)
+gifts_after_puts log (step ∷ steps) c = gifts-more log (Puts (step ∷ steps)) c ∙ omega arith
+
+got_more : (before more : ℕ) → counted (before + more) ≡ got_count (counted before) more
+got_more before more = omega arith
+
+pub got_none : (before : ℕ) → before ≡ got_count before 0
+got_none before = omega arith
+
+pub gets_given : (log : List Event) (asks : List Ask) (c : ℕ) → counted (gifts (log ++ gets_event (map look_of asks)) c) ≡ got_count (counted (gifts log c)) (chunks_got c asks)
+gets_given log asks c = ap counted (gifts_after_gets log asks c) ∙ got_more (gifts log c) (chunks_got c asks)
+
+pub puts_given : (log : List Event) (steps : List Step) (c : ℕ) → counted (gifts (log ++ puts_event steps) c) ≡ counted (gifts log c)
+puts_given log steps c = ap counted (gifts_after_puts log steps c)
+
+pub and_none : (a b : Bool) → (a && (b && false)) ≡ false
+and_none true true = refl
+and_none true false = refl
+and_none false b = refl
+
+pub starved_given : (asks : List Ask) (c : ℕ) → chunks_got c (map starved_ask asks) ≡ 0
+starved_given asks c =
+    tally_none _ (map starved_ask asks)
+    (All-map (λ a. (nat_eq a.cloud c && (is_chunk a.key && is_bytes a.answer)) ≡ false) starved_ask asks (λ k d l. and_none (nat_eq (get_or asks k d).cloud c) (is_chunk (get_or asks k d).key)))
+
 -- ---- answers
 
 all_numbered : {A B : Type 0} (P : B → Type 0) (g : ℕ → A → B) → ((k : ℕ) (x : A) → P (g k x)) → (n : ℕ) (xs : List A) → All P (numbered g n xs)
@@ -328,3 +367,29 @@ kept (j ∷ jobs) c old = pick_kept (nat_eq j.cloud c) old (touch (starved_job j
 
 pub starved_leaves : (jobs : List Job) (before : Contents) → Leaves (touches (map starved_job jobs)) before before
 starved_leaves jobs before = record { each = λ c. kept jobs c (before c) }
+
+-- ---- a planted object
+
+both : (a b : Bool) → (a && b) ≡ true → (a ≡ true → b ≡ true → ⊥) → ⊥
+both true true e none = none refl refl
+both true false e none = cc
+both false b e none = cc
+
+module _ (log : List Event) (cloud : ℕ) (key : Key) (bytes : List ℕ) where
+  pub planted_there : contents_after (log ++ Planted cloud key bytes ∷ []) nothing cloud key ≡ Some bytes
+  planted_there =
+      let here : nat_eq cloud cloud ≡ true = eq-eqb cloud cloud refl in
+      let same : key_eq key key ≡ true = (key_eq-Decides key key).1 refl in
+      value-more log (Planted cloud key bytes) cloud key None ∙ ap₂ (λ a b. if a && b then Some bytes else value log cloud key None) here same
+
+  pub planted_others : (c : ℕ) (q : Key) → (c ≡ cloud → q ≢ key) → contents_after (log ++ Planted cloud key bytes ∷ []) nothing c q ≡ contents_after log nothing c q
+  planted_others c q other =
+      value-more log (Planted cloud key bytes) c q None
+      ∙ stays (nat_eq cloud c && key_eq key q) (value log c q None) (Some bytes)
+      (λ e. both (nat_eq cloud c) (key_eq key q) e (λ x y. other (sym (eqb-true cloud c x)) (sym ((key_eq-Decides key q).0 y))))
+
+  pub planted_failures : (c : ℕ) → failures (log ++ Planted cloud key bytes ∷ []) c ≡ failures log c
+  planted_failures c = failures-more log (Planted cloud key bytes) c ∙ omega arith
+
+  pub planted_gifts : (c : ℕ) → gifts (log ++ Planted cloud key bytes ∷ []) c ≡ gifts log c
+  planted_gifts c = gifts-more log (Planted cloud key bytes) c ∙ omega arith

@@ -1,3 +1,4 @@
+pub mod Cloud
 pub mod Contents
 pub mod Fleet
 pub mod Memory

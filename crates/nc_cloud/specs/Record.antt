@@ -1,5 +1,5 @@
 -- What a memory fleet records, and what follows of what its clouds hold and how often they failed.
-use Rattle.std.specs.Prelude.{ℕ, ◌+◌, ◌-◌, ◌^◌, Bool, true, false, ◌&&◌, Option, None, Some, List, [], ◌∷◌, length, take, min, nat_eq, nat_le, if◌then◌else◌, find, option_map, is_some}
+use Rattle.std.specs.Prelude.{ℕ, ◌+◌, ◌-◌, ◌^◌, Bool, false, ◌&&◌, Option, None, Some, List, [], ◌∷◌, length, take, min, nat_eq, nat_le, if◌then◌else◌, find, option_map, is_some}
 use Rattle.std.specs.Str.{bytes_eq}
 use Rattle.nc_name.specs.declared.key.Key.{Key}
 use Rattle.nc_name.specs.declared.key.Key.TheVariants.{Meta, Chunk}
@@ -8,15 +8,16 @@ use Rattle.nc_cloud.specs.declared.fleet.Job.{Job}
 use Rattle.nc_cloud.specs.declared.fleet.Done.{Done}
 use Rattle.nc_cloud.specs.declared.fleet.Done.TheVariants as done
 use Rattle.nc_cloud.specs.declared.fleet.Answer.{Answer}
-use Rattle.nc_cloud.specs.declared.fleet.Answer.TheVariants.{Waiting, Bytes, Absent, Long, Failed, Memory}
+use Rattle.nc_cloud.specs.declared.fleet.Answer.TheVariants.{Bytes, Absent, Long, Failed, Memory}
 use Rattle.nc_cloud.specs.declared.record.Torn.{Torn}
 use Rattle.nc_cloud.specs.declared.record.Torn.TheVariants.{Old, New, Gone, Broken}
 use Rattle.nc_cloud.specs.declared.record.Refusal.{Refusal}
 use Rattle.nc_cloud.specs.declared.record.Look.{Look}
 use Rattle.nc_cloud.specs.declared.record.Step.{Step}
 use Rattle.nc_cloud.specs.declared.record.Event.{Event}
-use Rattle.nc_cloud.specs.declared.record.Event.TheVariants.{Gets, Puts}
+use Rattle.nc_cloud.specs.declared.record.Event.TheVariants.{Gets, Puts, Planted}
 use Rattle.nc_cloud.specs.Contents.{Contents}
+use Rattle.nc_cloud.specs.Fleet.{is_bytes, is_chunk, is_failed, tally}
 
 -- ---- entries
 
@@ -38,26 +39,6 @@ abbrev pub answer_of : Option Torn → ℕ → Option (List ℕ) → Answer
 answer_of (Some outcome) most held = Failed
 answer_of None most None = Absent
 answer_of None most (Some bytes) = if nat_le (length bytes) most then Bytes bytes else Long
-
-abbrev pub is_failed : Answer → Bool
-is_failed Failed = true
-is_failed (Bytes bytes) = false
-is_failed Absent = false
-is_failed Long = false
-is_failed Memory = false
-is_failed Waiting = false
-
-abbrev pub is_bytes : Answer → Bool
-is_bytes (Bytes bytes) = true
-is_bytes Absent = false
-is_bytes Long = false
-is_bytes Failed = false
-is_bytes Memory = false
-is_bytes Waiting = false
-
-abbrev pub is_chunk : Key → Bool
-is_chunk (Meta name slot) = false
-is_chunk (Chunk name slot row) = true
 
 -- ---- what is recorded
 
@@ -102,6 +83,7 @@ step_value (Some s) key old = if key_eq s.key key then left s.refused s.bytes ol
 abbrev pub value_after : Event → ℕ → Key → Option (List ℕ) → Option (List ℕ)
 value_after (Gets looks) c key old = old
 value_after (Puts steps) c key old = step_value (step_at steps c) key old
+value_after (Planted cloud place bytes) c key old = if nat_eq cloud c && key_eq place key then Some bytes else old
 
 -- and what several make of it, the first of them first
 abbrev pub value : List Event → ℕ → Key → Option (List ℕ) → Option (List ℕ)
@@ -142,19 +124,25 @@ starved_job j = record j { done = done.Memory }
 
 -- ---- counts
 
--- how many pass a test
-abbrev pub tally : {X : Type 0} → (X → Bool) → List X → ℕ
-tally p [] = 0
-tally p (x ∷ xs) = (if p x then 1 else 0) + tally p xs
-
 -- how many entries of an event failed on a cloud
 abbrev pub failed_in : Event → ℕ → ℕ
 failed_in (Gets looks) c = tally (λ l. nat_eq l.cloud c && l.failed) looks
 failed_in (Puts steps) c = tally (λ s. nat_eq s.cloud c && is_some s.refused) steps
+failed_in (Planted cloud key bytes) c = 0
 
 abbrev pub failures : List Event → ℕ → ℕ
 failures [] c = 0
 failures (e ∷ es) c = failed_in e c + failures es c
+
+-- how many gets of an event gave the bytes of a chunk
+abbrev pub given_in : Event → ℕ → ℕ
+given_in (Gets looks) c = tally (λ l. nat_eq l.cloud c && l.gave_chunk) looks
+given_in (Puts steps) c = 0
+given_in (Planted cloud key bytes) c = 0
+
+abbrev pub gifts : List Event → ℕ → ℕ
+gifts [] c = 0
+gifts (e ∷ es) c = given_in e c + gifts es c
 
 -- a count of 64 bits stays at its end
 abbrev pub counted : ℕ → ℕ

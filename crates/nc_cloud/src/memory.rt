@@ -1,16 +1,17 @@
-ghost use Rattle.std.specs.Prelude.{◌≡◌, ◌≢◌, ◌<◌, ◌++◌, ◌∷◌, [], ℕ, None, All, AllPairs, map, option_map, IfOk, OnOk, OnErr};
+ghost use Rattle.std.specs.Prelude.{◌≡◌, ◌≢◌, ◌<◌, ◌++◌, ◌∷◌, [], ℕ, None, Some, All, AllPairs, map, option_map, IfOk, OnOk, OnErr};
+ghost use Rattle.nc_name.specs.declared.key.Key.{Key};
 ghost use Rattle.nc_frame.specs.Frames.{Whole};
 ghost use Rattle.nc_cloud.specs.Contents.{Rose, Leaves, Grows};
-ghost use Rattle.nc_cloud.specs.Fleet.{asked, places, touches, Answers};
+ghost use Rattle.nc_cloud.specs.Fleet.{asked, chunks_got, got_count, places, touches, Answers};
 ghost use Rattle.nc_cloud.specs.declared.fleet.Answer.TheVariants.{Waiting as Unanswered, Failed as NoAnswer};
 ghost use Rattle.nc_cloud.specs.declared.fleet.Done.TheVariants.{Waiting, Failed};
 ghost use Rattle.nc_cloud.specs.Record.{nothing};
-ghost use Rattle.nc_cloud.specs.Memory.{contents_of, entries_of, faults_of, gets_event, log_of, puts_event, refusals_of, width_of, Gives, ServesGets, ServesPuts, Takes, Unchanged};
+ghost use Rattle.nc_cloud.specs.Memory.{chunk_gets_of, contents_of, entries_of, faults_of, gets_event, log_of, puts_event, refusals_of, width_of, Reads, ServesGets, ServesPuts, Writes, Unchanged};
 
 use crate::fleet::{Ask, Fleet, Job};
-use crate::record::{Event, LookList, Refusal, StepList, Torn, object_in};
+use crate::record::{Event, LookList, Refusal, StepList, Torn, gifts_in, object_in};
 use crate::serving::{answer_all, looks_of, mark, plan_puts, starve_asks, starve_jobs};
-use nc_name::{Key, Memory};
+use nc_name::{Blob, Key, Memory};
 use std::alloc::Global;
 
 /// Clouds in memory, which fail where they were told to. It keeps the record of all its rounds and nothing else
@@ -106,10 +107,42 @@ impl MemFleet {
         object_in(&self.log, cloud, key)
     }
 
+    /// How many gets of chunks of a cloud have given bytes.
+    pub fn gets(&self, cloud: u8) -> u64
+        ensures { result ≡ chunk_gets_of self.now cloud }
+    {
+        gifts_in(&self.log, cloud)
+    }
+
+    /// Places an object on a cloud without a round. It serves tests. At `Memory` nothing changed.
+    pub fn plant(&mut self, cloud: u8, key: &Key, bytes: &[u8]) -> Result<(), Memory>
+        requires { cloud < width_of self.old }
+        ensures ok { OnOk result (log_of self.new ≡ log_of self.old ++ Event.Planted cloud key.now bytes.now ∷ []) }
+        ensures err { OnErr result (log_of self.new ≡ log_of self.old) }
+        ensures there { OnOk result (contents_of self.new cloud key.now ≡ Some bytes.now) }
+        ensures others { OnOk result ((c : ℕ) (q : Key) → (c ≡ cloud → q ≢ key.now) → contents_of self.new c q ≡ contents_of self.old c q) }
+        ensures faults { faults_of self.new ≡ faults_of self.old }
+        ensures gets { chunk_gets_of self.new ≡ chunk_gets_of self.old }
+        ensures refusals { refusals_of self.new ≡ refusals_of self.old }
+        ensures entries { entries_of self.new ≡ entries_of self.old }
+        ensures width { width_of self.new ≡ width_of self.old }
+    {
+        let bytes = Blob::from_slice(self.alloc, bytes)?;
+        push_event(
+            &mut self.log,
+            Event::Planted {
+                cloud,
+                key: *key,
+                bytes,
+            },
+        )?;
+        Ok(())
+    }
+
     /// Answers the gets of a round and records them.
     fn give(&mut self, asks: &mut [Ask]) -> Result<(), Memory>
         ensures asked { map asked asks.new ≡ map asked asks.old }
-        ensures ok { OnOk result (Gives self.old self.new asks.old asks.new) }
+        ensures ok { OnOk result (Reads self.old self.new asks.old asks.new) }
         ensures err { OnErr result (Unchanged self.old self.new) }
     {
         answer_all(self.alloc, &self.log, &self.refusals, self.entries, asks)?;
@@ -121,7 +154,7 @@ impl MemFleet {
 
     /// Records the puts of a round and answers them.
     fn take(&mut self, jobs: &mut [Job]) -> Result<(), Memory>
-        ensures ok { OnOk result (Takes self.old self.new jobs.old jobs.new) }
+        ensures ok { OnOk result (Writes self.old self.new jobs.old jobs.new) }
         ensures err { OnErr result ((jobs.new ≡ jobs.old) × Unchanged self.old self.new) }
     {
         let steps = plan_puts(self.alloc, &self.refusals, self.entries, jobs)?;
@@ -160,6 +193,8 @@ impl Fleet for MemFleet {
 
     ghost counts_exactly = { Unit {0} };
 
+    ghost chunk_gets = { chunk_gets_of };
+
     fn width(&self) -> usize {
         self.width
     }
@@ -175,6 +210,7 @@ impl Fleet for MemFleet {
         ensures clouds { width_of self.new ≡ width_of self.old }
         ensures held { contents_of self.new ≡ contents_of self.old }
         ensures grows { Grows (faults_of self.old) (faults_of self.new) }
+        ensures gets { (c : ℕ) → chunk_gets_of self.new c ≡ got_count (chunk_gets_of self.old c) (chunks_got c asks.new) }
         ensures serves { ServesGets self.old self.new asks.old asks.new }
     {
         self.serve_gets(asks);
@@ -191,6 +227,7 @@ impl Fleet for MemFleet {
         ensures exact { (c : ℕ) → All (λ j. j.cloud ≡ c → j.done ≢ Failed) jobs.new → faults_of self.new c ≡ faults_of self.old c }
         ensures clouds { width_of self.new ≡ width_of self.old }
         ensures grows { Grows (faults_of self.old) (faults_of self.new) }
+        ensures gets { chunk_gets_of self.new ≡ chunk_gets_of self.old }
         ensures serves { ServesPuts self.old self.new jobs.old jobs.new }
     {
         self.serve_puts(jobs);

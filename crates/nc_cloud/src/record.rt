@@ -1,5 +1,6 @@
-ghost use Rattle.std.specs.Prelude.{◌≡◌, ◌↔◌, IsTrue, ◌+◌, ◌<◌, ◌++◌, ◌∷◌, [], ℕ, List, nat_eq, find, take, map, length, option_map, option_copied, IfOk, OnOk, OnErr};
-ghost use Rattle.nc_cloud.specs.Record.{step_at, left, refused_at, value_after, value, nothing, steps_of, look_of, answer_of};
+ghost use Rattle.std.specs.Prelude.{◌≡◌, ◌&&◌, ◌↔◌, IsTrue, ◌+◌, ◌<◌, ◌++◌, ◌∷◌, [], ℕ, List, nat_eq, find, take, map, length, option_map, option_copied, IfOk, OnOk, OnErr};
+ghost use Rattle.nc_cloud.specs.Fleet.{tally};
+ghost use Rattle.nc_cloud.specs.Record.{counted, gifts, step_at, left, refused_at, value_after, value, nothing, steps_of, look_of, answer_of};
 
 use nc_name::{Blob, Key, Memory};
 use std::alloc::Global;
@@ -127,6 +128,8 @@ impl StepList {
 pub enum Event {
     Gets(LookList),
     Puts(StepList),
+    /// An object was placed without a round.
+    Planted { cloud: u8, key: Key, bytes: Blob },
 }
 
 /// The step of a cloud.
@@ -165,6 +168,17 @@ fn object_after<'a>(
             Some(step) if step.key.is_same(key) => object_left(step, old),
             _ => old,
         },
+        Event::Planted {
+            cloud: place,
+            key: name,
+            bytes,
+        } => {
+            if *place == cloud && name.is_same(key) {
+                Some(bytes.bytes())
+            } else {
+                old
+            }
+        }
     }
 }
 
@@ -189,4 +203,30 @@ pub(crate) fn refusal_of(refusals: &[Refusal], entries: u64, i: usize) -> Option
         }
     }
     None
+}
+
+/// How many of these gets gave the bytes of a chunk of a cloud.
+fn given_by(looks: &LookList, cloud: u8) -> u64
+    ensures { result ≡ counted (tally (λ l. nat_eq l.cloud cloud && l.gave_chunk) looks.now) }
+{
+    let mut count: u64 = 0;
+    for look in &looks.looks {
+        if look.cloud == cloud && look.gave_chunk {
+            count = count.saturating_add(1);
+        }
+    }
+    count
+}
+
+/// How many gets of chunks of a cloud gave bytes.
+pub(crate) fn gifts_in(log: &[Event], cloud: u8) -> u64
+    ensures { result ≡ counted (gifts log.now cloud) }
+{
+    let mut count: u64 = 0;
+    for event in log {
+        if let Event::Gets(looks) = event {
+            count = count.saturating_add(given_by(looks, cloud));
+        }
+    }
+    count
 }

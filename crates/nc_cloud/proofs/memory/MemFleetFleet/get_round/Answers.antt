@@ -1,4 +1,4 @@
-use Rattle.nc_cloud.proofs.Serves.{gets_entries, gets_answered, gets_told, gets_failed, gets_exactly, gets_held, gets_grows}
+use Rattle.nc_cloud.proofs.Serves.{gets_entries, gets_answered, gets_told, gets_failed, gets_exactly, gets_held, gets_grows, gets_given_all}
 use Rattle.nc_cloud.proofs.memory.MemFleetFleet.get_round.Goals as goal
 
 pub returns-clause-entries : goal.returns-clause-entries
@@ -21,3 +21,6 @@ returns-clause-held c = gets_held c.serve_gets.ensures
 
 pub returns-clause-grows : goal.returns-clause-grows
 returns-clause-grows c = gets_grows c.serve_gets.ensures
+
+pub returns-clause-gets : goal.returns-clause-gets
+returns-clause-gets c = gets_given_all c.serve_gets.ensures

@@ -1,4 +1,4 @@
-use Rattle.nc_cloud.proofs.Serves.{puts_entries, puts_answered, puts_told, puts_failed, puts_exactly, puts_grows}
+use Rattle.nc_cloud.proofs.Serves.{puts_entries, puts_answered, puts_told, puts_failed, puts_exactly, puts_grows, puts_given_all}
 use Rattle.nc_cloud.proofs.memory.MemFleetFleet.put_round.Goals as goal
 
 pub returns-clause-entries : goal.returns-clause-entries
@@ -18,3 +18,6 @@ returns-clause-exact c = puts_exactly c.serve_puts.ensures
 
 pub returns-clause-grows : goal.returns-clause-grows
 returns-clause-grows c = puts_grows c.serve_puts.ensures
+
+pub returns-clause-gets : goal.returns-clause-gets
+returns-clause-gets c = puts_given_all c.serve_puts.ensures
