@@ -3,13 +3,17 @@
 #![tactic(auto)]
 
 mod adding;
+mod decoding;
 mod encoding;
 mod gates;
 mod list;
+mod pieces;
 
+pub use decoding::decode;
 pub use encoding::encode;
 pub use gates::{Gate, Open};
 pub use list::Chunks;
+pub use pieces::Piece;
 
 #[cfg(test)]
 mod tests {
