@@ -61,7 +61,7 @@ fn inverse_of(pieces: &[Piece], code: &Code) -> Square
 }
 
 /// The first `count` rows.
-fn first_rows(cells: &[[u8; 16]; 16], count: usize) -> &[[u8; 16]]
+pub fn first_rows(cells: &[[u8; 16]; 16], count: usize) -> &[[u8; 16]]
     requires { count ≤ 16 }
     ensures count { length result.now ≡ count }
     ensures rows { result.now ≡ take count cells.now }
@@ -70,7 +70,7 @@ fn first_rows(cells: &[[u8; 16]; 16], count: usize) -> &[[u8; 16]]
 }
 
 /// The square of the pieces' rows, two for each piece in order.
-fn square_of(pieces: &[Piece], code: &Code) -> Square
+pub fn square_of(pieces: &[Piece], code: &Code) -> Square
     requires count { length pieces.now + 2 ≡ code.now.width }
     requires in_width { All (λ x. x.cloud < code.now.width) pieces.now }
     ensures size { result.size ≡ native_count code.now.width }
@@ -90,7 +90,7 @@ fn square_of(pieces: &[Piece], code: &Code) -> Square
 }
 
 /// The first `len` bytes of what the rows make of the pieces' chunks.
-fn decode_with<R: Threads + Sync, G: Gate + Sync>(
+pub fn decode_with<R: Threads + Sync, G: Gate + Sync>(
     rt: &R,
     alloc: Global,
     pieces: &[Piece],
