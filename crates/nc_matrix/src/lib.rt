@@ -16,6 +16,8 @@ mod outcome;
 mod products;
 mod rows;
 mod square;
+#[cfg(test)]
+mod tests;
 
 /// The inverse of a square, by elimination (Gauss and Jordan); or, where its rows are dependent, a vector that shows it.
 pub fn invert(a: &Square) -> Outcome
@@ -61,60 +63,4 @@ pub fn apply(a: &Square, v: &[u8; 16]) -> [u8; 16]
         image[i] = dot(&a.cells[i], v, a.size as usize);
     }
     image
-}
-
-#[cfg(test)]
-mod tests {
-    use super::*;
-
-    // The row that begins with the two bytes.
-    fn row(a: u8, b: u8) -> [u8; 16] {
-        let mut row = [0; 16];
-        row[0] = a;
-        row[1] = b;
-        row
-    }
-
-    // The square of size 2 with these rows.
-    fn square(a: [u8; 2], b: [u8; 2]) -> Square {
-        let mut cells = [[0; 16]; 16];
-        cells[0][0] = a[0];
-        cells[0][1] = a[1];
-        cells[1][0] = b[0];
-        cells[1][1] = b[1];
-        Square { size: 2, cells }
-    }
-
-    #[test]
-    fn inverts_independent_rows(rt: HostRuntime) {
-        match invert(&square([0x01, 0x01], [0x01, 0x02])) {
-            Outcome::Inverse(b) => {
-                assert_eq!(rt; b.size, 2);
-                assert_eq!(rt; b.cells[0], row(0xF5, 0xF4));
-                assert_eq!(rt; b.cells[1], row(0xF4, 0xF4));
-            }
-            Outcome::Kernel(_) => assert!(rt; false),
-        }
-    }
-
-    #[test]
-    fn shows_that_rows_are_dependent(rt: HostRuntime) {
-        match invert(&square([0x01, 0x02], [0x02, 0x04])) {
-            Outcome::Inverse(_) => assert!(rt; false),
-            Outcome::Kernel(v) => {
-                assert_ne!(rt; v[1], 0);
-                assert_eq!(rt; v, row(nc_gf256::mul(0x02, v[1]), v[1]));
-            }
-        }
-    }
-
-    #[test]
-    fn multiplies_squares_and_vectors(rt: HostRuntime) {
-        let a = square([0x02, 0x00], [0x03, 0x01]);
-        let b = square([0x80, 0x01], [0x01, 0x8E]);
-        let c = product(&a, &b);
-        assert_eq!(rt; c.cells[0], row(0x1D, 0x02));
-        assert_eq!(rt; c.cells[1], row(0x9C, 0x8D));
-        assert_eq!(rt; apply(&a, &row(0x80, 0x01)), row(0x1D, 0x9C));
-    }
 }

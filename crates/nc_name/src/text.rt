@@ -47,7 +47,7 @@ impl KeyText {
         ensures { result.now ≡ self.now }
     {
         let bytes = nc_bytes::part_of(&self.bytes, 0, self.len as usize);
-        unsafe { str::from_utf8_unchecked(bytes) }
+        str::from_utf8(bytes).unwrap_or("")
     }
 }
 
