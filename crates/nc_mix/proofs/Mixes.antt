@@ -1,5 +1,5 @@
 -- Mixes of byte lists, and how they are added up.
-use Rattle.std.proofs.Common.{◌≡◌, ℕ, ◌+◌, ◌*◌, ◌<◌, zero, suc, List, [], length, get_or, ◌/◌, ◌%◌, ◌≤◌, ◌∷◌, ◌++◌, map, replicate, refl, sym, ◌∙◌, ap, subst, arith}
+use Rattle.std.proofs.Common.{◌≡◌, ℕ, ◌+◌, ◌*◌, ◌<◌, List, [], length, get_or, ◌/◌, ◌%◌, ◌≤◌, ◌∷◌, ◌++◌, map, replicate, sym, ◌∙◌, ap, subst, arith}
 use Rattle.std.proofs.lemmas.List.{length-map, length-replicate, get_or-map, get_or-replicate}
 use Rattle.std.proofs.lemmas.List.FromFn.{fill_by_all, length-map-range_with_len, get_or-map-range_with_len, map-range_with_len_more}
 use Rattle.std.specs.Prelude.{bit_xor}
@@ -8,18 +8,12 @@ use Rattle.std.specs.Borrow.{Bor}
 use Rattle.std.specs.List.{range_with_len}
 use Rattle.nc_gf256.specs.Field.{mul, total}
 use Rattle.nc_gf256.specs.Width.{native_count}
+use Rattle.nc_gf256.proofs.FieldLaws.{zero_mul_any}
+use Rattle.nc_gf256.proofs.Sums.{total_nil, total_more, total_same}
 use Rattle.nc_native.specs.Native.{native, natives_of, native_len, chunk_size, combination, AllLong}
 use Rattle.nc_native.proofs.Pieces.{natives_count, native_at, native_len_of}
 use Rattle.nc_code.specs.Parts.{CodeParts}
-use Rattle.nc_mix.specs.Mixing.{mixed_byte, mixed, chunk_by, chunks_of, AreChunksOf, lent, HasAdded}
-
-pub total_none : (term : ℕ → ℕ) → total 0 term ≡ 0
-unfolding total
-total_none term = refl
-
-pub total_more : (n : ℕ) (term : ℕ → ℕ) → total (n + 1) term ≡ bit_xor (total n term) (term n)
-unfolding total
-total_more n term = let e : n + 1 ≡ suc n = omega arith in ap (λ m. total m term) e
+use Rattle.nc_mix.specs.Mixing.{mixed_byte, mixed, chunk_by, chunks_of, AreChunksOf, lent, HasAdded, HasMultiples}
 
 -- one source more is added to a byte
 pub add_more : (i : ℕ) (row : List ℕ) (sources : List (List ℕ)) (p old prev new : ℕ) (source : List ℕ) → prev ≡ bit_xor old (mixed_byte i row sources p) →
@@ -34,7 +28,14 @@ add_more i row sources p old prev new source before is step =
 
 -- what no source is added to stays
 pub none_added : (row : List ℕ) (sources : List (List ℕ)) (start : ℕ) (old : List ℕ) → HasAdded 0 row sources start old old
-none_added row sources start old p h = sym (ap (bit_xor (get_or old p 0)) (total_none (λ k. mul (get_or row k 0) (get_or (get_or sources k []) (start + p) 0))) ∙ xor_zero_r (get_or old p 0))
+none_added row sources start old p h = sym (ap (bit_xor (get_or old p 0)) (total_nil (λ k. mul (get_or row k 0) (get_or (get_or sources k []) (start + p) 0))) ∙ xor_zero_r (get_or old p 0))
+
+-- 0 times a source changes nothing
+pub no_multiples : (factor : ℕ) (source : List ℕ) (start : ℕ) (old : List ℕ) → factor ≡ 0 → HasMultiples factor source start old old
+no_multiples factor source start old e p h =
+    let x : ℕ = get_or source (start + p) 0 in
+    let none : mul factor x ≡ 0 = ap (λ f. mul f x) e ∙ zero_mul_any x in
+    sym (ap (bit_xor (get_or old p 0)) none ∙ xor_zero_r (get_or old p 0))
 
 -- what is added to zeros is the sum
 pub from_zeros : (size : ℕ) (row : List ℕ) (sources : List (List ℕ)) (old new : List ℕ) → old ≡ replicate size 0 → length new ≡ size → HasAdded (length sources) row sources 0 old new → new ≡ mixed size row sources
@@ -65,11 +66,6 @@ chunk_more rows natives sources chunks k size row chunk before same long is made
     made ∙ ap (mixed size row) same ∙ ap (λ n. mixed n row natives) long ∙ ap (λ r. mixed (native_len natives) r natives) (is ∙ ap (λ j. get_or rows j []) place) in
     ap (λ cs. cs ++ (chunk ∷ [])) before ∙ ap (λ c. chunks_of k rows natives ++ (c ∷ [])) chunk_is ∙ sym (map-range_with_len_more (chunk_by rows natives) 0 k k (omega arith))
 
-pub total_same : (n : ℕ) (f g : ℕ → ℕ) → ((i : ℕ) → i < n → f i ≡ g i) → total n f ≡ total n g
-unfolding total
-total_same zero f g same = refl
-total_same (suc n) f g same = ap (λ t. bit_xor t (f n)) (total_same n f g (λ i h. same i (omega arith))) ∙ ap (bit_xor (total n g)) (same n (omega arith))
-
 -- the mix of a file's natives is their combination
 pub mixed_natives : (v row : List ℕ) (n : ℕ) → mixed (chunk_size (length v) n) row (natives_of v n) ≡ combination row v n
 unfolding mixed combination
@@ -98,3 +94,7 @@ pub first_long : (sources : List (Bor (List ℕ))) (natives : List (List ℕ)) (
 first_long sources natives first n same count wide is =
     let many : length sources ≡ native_count n = sym (length-map sources (λ s. s.now)) ∙ ap length same ∙ count in
     ap (λ s. length s.now) is ∙ ap length (sym (lent_at sources 0 first (omega arith))) ∙ ap (λ xs. length (get_or xs 0 [])) same
+
+pub length-mixed : (size : ℕ) (row : List ℕ) (sources : List (List ℕ)) → length (mixed size row sources) ≡ size
+unfolding mixed
+length-mixed size row sources = length-map-range_with_len (mixed_byte (length sources) row sources) 0 size

@@ -63,6 +63,9 @@ fn add_from(dst: &mut [u8], source: &[u8], start: usize, factor: u8)
     requires { start + length dst.old ≤ length source.now }
     ensures { HasMultiples factor source.now start dst.old dst.new }
 {
+    if factor == 0 {
+        return;
+    }
     let end = start + dst.len();
     add_multiple(dst, &source[start..end], factor);
 }
@@ -90,7 +93,7 @@ fn products_of(factor: u8) -> [u8; 256]
 }
 
 /// So many zeros.
-fn zeros(alloc: Global, size: usize) -> Result<Vec<u8>, Memory>
+pub fn zeros(alloc: Global, size: usize) -> Result<Vec<u8>, Memory>
     ensures { IfOk result (λ v. v.items ≡ replicate size 0) }
 {
     let Ok(mut bytes) = Vec::with_capacity(alloc, size) else {

@@ -28,6 +28,7 @@ pub fn encode<R: Threads + Sync, G: Gate + Sync>(
     requires some_worker { 1 ≤ workers }
     requires few_workers { workers ≤ 16 }
     ensures chunks { IfOk result (λ chunks. chunks ≡ chunks_of (2 * code.now.width) code.now.rows natives.now) }
+    ensures count { IfOk result (λ chunks. length chunks ≡ 2 * code.now.width) }
     ensures of_file { IfOk result (λ chunks. (v : List ℕ) → natives.now ≡ natives_of v code.now.width → AreChunksOf code.now v chunks) }
 {
     let width = code.width();
