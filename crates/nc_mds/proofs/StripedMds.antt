@@ -18,14 +18,14 @@ record IsSent (n a b : ℕ) (v : List ℕ) : Type 0 where
   bytes : AreBytes v
   sent : (c s : ℕ) → c < n → s < 2 → c ≢ a → c ≢ b → dot (native_count n) (code_row (striped_code n) c s) v ≡ 0
 
-striped_width : (n : ℕ) → (striped_code n).width ≡ n
+pub striped_width : (n : ℕ) → (striped_code n).width ≡ n
 unfolding striped_code
 striped_width n = refl
 
-power_byte : (c : ℕ) → c < 8 → 2 ^ c < 256
+pub power_byte : (c : ℕ) → c < 8 → 2 ^ c < 256
 power_byte c low = pow_below c 8 low
 
-power_some : (c : ℕ) → 2 ^ c ≢ 0
+pub power_some : (c : ℕ) → 2 ^ c ≢ 0
 power_some c e = absurd (omega (arith, pow_pos c, e))
 
 -- the natives of the clouds that are left
@@ -47,7 +47,7 @@ alone n a b s v wide narrow is pair low which = elim which [
   ]
 
 -- two clouds of natives are gone: by the sum their entries are equal, and by the weighted sum the entries are 0
-powers_differ : (a b : ℕ) → a < b → bit_xor (2 ^ a) (2 ^ b) ≢ 0
+pub powers_differ : (a b : ℕ) → a < b → bit_xor (2 ^ a) (2 ^ b) ≢ 0
 powers_differ a b less e =
     let same : 2 ^ a ≡ 2 ^ b = same_of_xor (2 ^ a) (2 ^ b) e in
     absurd (omega (arith, pow_below a b less, same))

@@ -8,7 +8,7 @@ use Rattle.nc_gf256.specs.Field.{mul, total}
 use Rattle.nc_gf256.specs.Rows.{dot}
 use Rattle.nc_gf256.specs.Width.{native_count}
 use Rattle.nc_gf256.proofs.FieldLaws.{mul_zero, zero_mul_any, one_mul}
-use Rattle.nc_gf256.proofs.Sums.{total_same, total_one, total_two}
+use Rattle.nc_gf256.proofs.Sums.{total_same, total_one, total_two, total_three}
 use Rattle.nc_code.specs.Codes.{code_row}
 use Rattle.nc_code.specs.Striped.{unit, stripe, striped_entry, striped_row, striped_code}
 
@@ -37,10 +37,10 @@ entry_sums n s i wide below = grind (arith, nat_tests)
 entry_powers : (n s i : ℕ) → 4 ≤ n → i < native_count n → striped_entry n (n - 1) s i ≡ stripe s (λ d. 2 ^ d) i
 entry_powers n s i wide below = grind (arith, nat_tests)
 
-stripe_on : (s k : ℕ) (w : ℕ → ℕ) → k % 2 ≡ s → stripe s w k ≡ w (k / 2)
+pub stripe_on : (s k : ℕ) (w : ℕ → ℕ) → k % 2 ≡ s → stripe s w k ≡ w (k / 2)
 stripe_on s k w e = grind (arith, nat_tests)
 
-stripe_off : (s k : ℕ) (w : ℕ → ℕ) → k % 2 ≢ s → stripe s w k ≡ 0
+pub stripe_off : (s k : ℕ) (w : ℕ → ℕ) → k % 2 ≢ s → stripe s w k ≡ 0
 stripe_off s k w e = grind (arith, nat_tests)
 
 -- ---- dot products
@@ -79,6 +79,18 @@ two_left n s d e w x pair low low2 apart others =
         ap x (sym place) ∙ others (k / 2) (omega arith) (omega arith) (omega arith)))
     ∙ ap (λ a. bit_xor a (mul (stripe s w (2 * e + s)) (x (2 * e + s)))) (on_place s d w x pair)
     ∙ ap (bit_xor (mul (w d) (x (2 * d + s)))) (on_place s e w x pair)
+
+pub three_left : (n s d e f : ℕ) (w x : ℕ → ℕ) → s < 2 → d < n - 2 → e < n - 2 → f < n - 2 → d ≢ e → d ≢ f → e ≢ f
+    → ((c : ℕ) → c < n - 2 → c ≢ d → c ≢ e → c ≢ f → x (2 * c + s) ≡ 0)
+    → along n s w x ≡ bit_xor (bit_xor (mul (w d) (x (2 * d + s))) (mul (w e) (x (2 * e + s)))) (mul (w f) (x (2 * f + s)))
+three_left n s d e f w x pair low low2 low3 de df ef others =
+    total_three (native_count n) (λ i. mul (stripe s w i) (x i)) (2 * d + s) (2 * e + s) (2 * f + s) (omega arith) (omega arith) (omega arith) (omega arith) (omega arith) (omega arith)
+    (λ k below ne ne2 ne3. off_zero s k w x (λ is.
+        let place : 2 * (k / 2) + s ≡ k = omega arith in
+        ap x (sym place) ∙ others (k / 2) (omega arith) (omega arith) (omega arith) (omega arith)))
+    ∙ ap (λ a. bit_xor (bit_xor a (mul (stripe s w (2 * e + s)) (x (2 * e + s)))) (mul (stripe s w (2 * f + s)) (x (2 * f + s)))) (on_place s d w x pair)
+    ∙ ap (λ a. bit_xor (bit_xor (mul (w d) (x (2 * d + s))) a) (mul (stripe s w (2 * f + s)) (x (2 * f + s)))) (on_place s e w x pair)
+    ∙ ap (bit_xor (bit_xor (mul (w d) (x (2 * d + s))) (mul (w e) (x (2 * e + s))))) (on_place s f w x pair)
 
 unit_on : (j k : ℕ) → k ≡ j → unit j k ≡ 1
 unit_on j k e = grind (arith, nat_tests)
