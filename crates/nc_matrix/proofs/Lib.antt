@@ -1,0 +1,4 @@
+pub mod RowLemmas
+pub mod TableLemmas
+pub mod StepLemmas
+pub mod EndLemmas

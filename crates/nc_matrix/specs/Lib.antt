@@ -1,0 +1,4 @@
+pub mod Cells
+pub mod Products
+pub mod Elimination
+pub mod Inverted
