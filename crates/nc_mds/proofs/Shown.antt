@@ -1,5 +1,5 @@
 -- A vector that shows dependent rows refutes that the code is MDS.
-use Rattle.std.proofs.Common.{ℕ, ◌<◌, List}
+use Rattle.std.proofs.Common.{ℕ, List}
 use Rattle.nc_code.specs.Parts.{CodeParts}
 use Rattle.nc_code.specs.Codes.{IsPairMds, IsMds}
 use Rattle.nc_mds.specs.Verdicts.{Shows, IsFirstPair}

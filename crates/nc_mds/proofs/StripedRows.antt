@@ -1,7 +1,7 @@
 -- The rows of the striped code, and their dot products with a vector.
-use Rattle.std.proofs.Common.{◌≡◌, ◌≢◌, ℕ, ◌+◌, ◌-◌, ◌*◌, ◌/◌, ◌%◌, ◌^◌, ◌<◌, ◌≤◌, List, [], map, bit_xor, slice_index, refl, sym, ap, ◌∙◌, subst, arith, inl, inr}
+use Rattle.std.proofs.Common.{◌≡◌, ◌≢◌, ℕ, ◌+◌, ◌-◌, ◌*◌, ◌/◌, ◌%◌, ◌^◌, ◌<◌, ◌≤◌, List, [], map, bit_xor, slice_index, refl, sym, ap, ◌∙◌, arith, inl, inr}
 use Rattle.std.specs.List.{range_with_len}
-use Rattle.std.proofs.lemmas.Bool.{cases_lt, cases_eq}
+use Rattle.std.proofs.lemmas.Bool.{cases_eq}
 use Rattle.std.proofs.lemmas.Bool.Decides.{nat_tests}
 use Rattle.std.proofs.lemmas.List.FromFn.{get_or-map-range_with_len}
 use Rattle.nc_gf256.specs.Field.{mul, total}
@@ -51,9 +51,9 @@ along n s w x = total (native_count n) (λ i. mul (stripe s w i) (x i))
 
 off_zero : (s k : ℕ) (w x : ℕ → ℕ) → (k % 2 ≡ s → x k ≡ 0) → mul (stripe s w k) (x k) ≡ 0
 off_zero s k w x h = elim (cases_eq (k % 2) s) [
-    inl e ↦ ap (mul (stripe s w k)) (h e) ∙ mul_zero (stripe s w k)
+  | inl e ↦ ap (mul (stripe s w k)) (h e) ∙ mul_zero (stripe s w k)
   | inr ne ↦ ap (λ a. mul a (x k)) (stripe_off s k w ne) ∙ zero_mul_any (x k)
-  ]
+]
 
 on_place : (s d : ℕ) (w x : ℕ → ℕ) → s < 2 → mul (stripe s w (2 * d + s)) (x (2 * d + s)) ≡ mul (w d) (x (2 * d + s))
 on_place s d w x pair =
@@ -66,8 +66,8 @@ pub one_left : (n s d : ℕ) (w x : ℕ → ℕ) → s < 2 → d < n - 2 → ((c
 one_left n s d w x pair low others =
     total_one (native_count n) (λ i. mul (stripe s w i) (x i)) (2 * d + s) (omega arith)
     (λ k below ne. off_zero s k w x (λ e.
-        let place : 2 * (k / 2) + s ≡ k = omega arith in
-        ap x (sym place) ∙ others (k / 2) (omega arith) (omega arith)))
+    let place : 2 * (k / 2) + s ≡ k = omega arith in
+    ap x (sym place) ∙ others (k / 2) (omega arith) (omega arith)))
     ∙ on_place s d w x pair
 
 pub two_left : (n s d e : ℕ) (w x : ℕ → ℕ) → s < 2 → d < n - 2 → e < n - 2 → d ≢ e → ((c : ℕ) → c < n - 2 → c ≢ d → c ≢ e → x (2 * c + s) ≡ 0)
@@ -75,8 +75,8 @@ pub two_left : (n s d e : ℕ) (w x : ℕ → ℕ) → s < 2 → d < n - 2 → e
 two_left n s d e w x pair low low2 apart others =
     total_two (native_count n) (λ i. mul (stripe s w i) (x i)) (2 * d + s) (2 * e + s) (omega arith) (omega arith) (omega arith)
     (λ k below ne ne2. off_zero s k w x (λ is.
-        let place : 2 * (k / 2) + s ≡ k = omega arith in
-        ap x (sym place) ∙ others (k / 2) (omega arith) (omega arith) (omega arith)))
+    let place : 2 * (k / 2) + s ≡ k = omega arith in
+    ap x (sym place) ∙ others (k / 2) (omega arith) (omega arith) (omega arith)))
     ∙ ap (λ a. bit_xor a (mul (stripe s w (2 * e + s)) (x (2 * e + s)))) (on_place s d w x pair)
     ∙ ap (bit_xor (mul (w d) (x (2 * d + s)))) (on_place s e w x pair)
 
@@ -86,8 +86,8 @@ pub three_left : (n s d e f : ℕ) (w x : ℕ → ℕ) → s < 2 → d < n - 2 �
 three_left n s d e f w x pair low low2 low3 de df ef others =
     total_three (native_count n) (λ i. mul (stripe s w i) (x i)) (2 * d + s) (2 * e + s) (2 * f + s) (omega arith) (omega arith) (omega arith) (omega arith) (omega arith) (omega arith)
     (λ k below ne ne2 ne3. off_zero s k w x (λ is.
-        let place : 2 * (k / 2) + s ≡ k = omega arith in
-        ap x (sym place) ∙ others (k / 2) (omega arith) (omega arith) (omega arith) (omega arith)))
+    let place : 2 * (k / 2) + s ≡ k = omega arith in
+    ap x (sym place) ∙ others (k / 2) (omega arith) (omega arith) (omega arith) (omega arith)))
     ∙ ap (λ a. bit_xor (bit_xor a (mul (stripe s w (2 * e + s)) (x (2 * e + s)))) (mul (stripe s w (2 * f + s)) (x (2 * f + s)))) (on_place s d w x pair)
     ∙ ap (λ a. bit_xor (bit_xor (mul (w d) (x (2 * d + s))) a) (mul (stripe s w (2 * f + s)) (x (2 * f + s)))) (on_place s e w x pair)
     ∙ ap (bit_xor (bit_xor (mul (w d) (x (2 * d + s))) (mul (w e) (x (2 * e + s))))) (on_place s f w x pair)
@@ -109,7 +109,7 @@ dot_is : (n c s : ℕ) (v : List ℕ) (f : ℕ → ℕ) → n ≤ 10 → c < n �
     → dot (native_count n) (code_row (striped_code n) c s) v ≡ total (native_count n) (λ i. mul (f i) (slice_index v i))
 dot_is n c s v f narrow low pair h =
     total_same (native_count n) _ _ (λ i below.
-        ap (λ a. mul a (slice_index v i)) (entry_is n c s i (omega arith) pair (omega arith) ∙ h i below))
+    ap (λ a. mul a (slice_index v i)) (entry_is n c s i (omega arith) pair (omega arith) ∙ h i below))
 
 pub dot_native : (n c s : ℕ) (v : List ℕ) → n ≤ 10 → c < n - 2 → s < 2 → slice_index v (2 * c + s) < 256
     → dot (native_count n) (code_row (striped_code n) c s) v ≡ slice_index v (2 * c + s)

@@ -1,5 +1,5 @@
 -- What the check of a code answers.
-use Rattle.std.specs.Prelude.{ℕ, ◌≡◌, ◌≢◌, ◌+◌, ◌<◌, ◌≤◌, ◌⊎◌, List, nat_lt, slice_index, if◌then◌else◌}
+use Rattle.std.specs.Prelude.{ℕ, ◌≡◌, ◌≢◌, ◌+◌, ◌<◌, ◌≤◌, List, nat_lt, slice_index, if◌then◌else◌}
 use Rattle.nc_bytes.specs.Bytes.{AreBytes}
 use Rattle.nc_gf256.specs.Rows.{dot}
 use Rattle.nc_gf256.specs.Width.{native_count}

@@ -3,10 +3,9 @@ ghost use Rattle.nc_code.specs.Codes.{IsMds, IsPairMds};
 ghost use Rattle.nc_mds.specs.Verdicts.{IsVerdict, IsFirstAfter};
 ghost use Rattle.nc_mds.specs.declared.verdict.Verdict.TheVariants.{Mds};
 
-use nc_code::Code;
-
 use crate::pairs::pair_kernel;
 use crate::verdict::Verdict;
+use nc_code::Code;
 
 /// Whether a code is MDS. It stops at the first pair of clouds whose loss leaves dependent rows, by the lower cloud and
 /// then the higher one.

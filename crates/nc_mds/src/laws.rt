@@ -8,8 +8,7 @@ use crate::verdict::Verdict;
 /// The striped code is MDS at each width.
 pub fn striped_is_mds()
     ensures { StripedIsMds }
-{
-}
+{}
 
 /// The check finds that the striped code is MDS.
 pub fn check_striped(width: u8) -> Verdict

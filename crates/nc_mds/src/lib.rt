@@ -1,8 +1,6 @@
 //! Whether a code is MDS: whether the chunks of any all but two clouds give the file back (FAST 2012).
 #![tactic(auto)]
 
-ghost use Rattle.std.specs.Prelude.{◌<◌, ℕ, slice_index};
-
 mod checking;
 mod laws;
 mod pairs;
@@ -14,26 +12,28 @@ pub use verdict::Verdict;
 
 #[cfg(test)]
 mod tests {
-    use nc_code::{Code, Plan, repaired, striped};
-
     use super::*;
-
-    fn plan(choice: &[u8; 10], zero: [u8; 10], one: [u8; 10]) -> Plan
-        requires { (t : ℕ) → slice_index choice.now t < 2 }
-    {
-        Plan::new(choice, &[zero, one])
-    }
+    use nc_code::{Plan, repaired, striped};
 
     #[test]
     fn striped_codes_are_mds(rt: HostRuntime) {
         for width in 4..11u8 {
-            assert!(rt; matches!(check(&striped(width)), Verdict::Mds), "at width {width}");
+            assert!(rt;
+                matches!(check(&striped(width)), Verdict::Mds),
+                "at width {width}"
+            );
         }
     }
 
     #[test]
     fn a_repair_from_one_stripe_fails_at_the_least_pair(rt: HostRuntime) {
-        let made = plan(&[0; 10], [0, 1, 2, 3, 0, 0, 0, 0, 0, 0], [0, 0, 1, 1, 0, 0, 0, 0, 0, 0]);
+        let made = Plan::new(
+            &[0; 10],
+            &[
+                [0, 1, 2, 3, 0, 0, 0, 0, 0, 0],
+                [0, 0, 1, 1, 0, 0, 0, 0, 0, 0],
+            ],
+        );
         match check(&repaired(&striped(4), 0, &made)) {
             Verdict::Mds => panic!(rt; "the code is not MDS"),
             Verdict::Fails { a, b, kernel } => {
@@ -48,8 +48,20 @@ mod tests {
     #[test]
     fn a_code_fails_at_its_last_pair_alone(rt: HostRuntime) {
         let choice = [0, 0, 1, 1, 0, 0, 0, 0, 0, 0];
-        let second = plan(&choice, [3, 0, 3, 1, 0, 0, 0, 0, 0, 0], [0, 0, 3, 1, 0, 0, 0, 0, 0, 0]);
-        let first = plan(&choice, [0, 2, 3, 2, 0, 0, 0, 0, 0, 0], [0, 1, 0, 3, 0, 0, 0, 0, 0, 0]);
+        let second = Plan::new(
+            &choice,
+            &[
+                [3, 0, 3, 1, 0, 0, 0, 0, 0, 0],
+                [0, 0, 3, 1, 0, 0, 0, 0, 0, 0],
+            ],
+        );
+        let first = Plan::new(
+            &choice,
+            &[
+                [0, 2, 3, 2, 0, 0, 0, 0, 0, 0],
+                [0, 1, 0, 3, 0, 0, 0, 0, 0, 0],
+            ],
+        );
         match check(&repaired(&repaired(&striped(4), 1, &second), 0, &first)) {
             Verdict::Mds => panic!(rt; "the code is not MDS"),
             Verdict::Fails { a, b, kernel } => {
@@ -62,9 +74,7 @@ mod tests {
 
     #[test]
     fn rows_of_zeros_fail_at_the_first_pair(rt: HostRuntime) {
-        let mut code: Code = striped(5);
-        code = repaired(&code, 4, &Plan::none());
-        match check(&code) {
+        match check(&repaired(&striped(5), 4, &Plan::none())) {
             Verdict::Mds => panic!(rt; "the code is not MDS"),
             Verdict::Fails { a, b, .. } => assert_eq!(rt; (a, b), (0, 1)),
         }

@@ -87,6 +87,14 @@ three_zero a b c =
         ∙ xor_comm b a in
     ap (λ x. bit_xor x (bit_xor a b)) first ∙ xor_self (bit_xor a b)
 
+-- (a + b) + (a + c) + (b + c) = 0
+three_turned : (a b c : ℕ) → bit_xor (bit_xor (bit_xor a b) (bit_xor a c)) (bit_xor b c) ≡ 0
+three_turned a b c =
+    ap (λ e. bit_xor (bit_xor e (bit_xor a c)) (bit_xor b c)) (xor_comm a b)
+    ∙ ap (λ e. bit_xor (bit_xor (bit_xor b a) e) (bit_xor b c)) (xor_comm a c)
+    ∙ ap (bit_xor (bit_xor (bit_xor b a) (bit_xor c a))) (xor_comm b c)
+    ∙ three_zero c b a
+
 sum_of_three : (n q x y z : ℕ) (w : ℕ → ℕ) (f g h : ℕ) → q < 2 → x < y → y < z → z < n - 2
     → along n q w (stripe q (of_three x y z f g h)) ≡ bit_xor (bit_xor (mul (w x) f) (mul (w y) g)) (mul (w z) h)
 sum_of_three n q x y z w f g h pair xy yz low =
@@ -115,7 +123,7 @@ products_gone : (a b c : ℕ) → a < 256 → b < 256 → c < 256
     → bit_xor (bit_xor (mul a (bit_xor b c)) (mul b (bit_xor a c))) (mul c (bit_xor a b)) ≡ 0
 products_gone a b c ba bb bc =
     rw (mul-xor_right a b c, mul-xor_right b a c, mul-xor_right c a b, mul_comm b a bb ba, mul_comm c a bc ba, mul_comm c b bc bb)
-    (three_zero (mul b c) (mul a c) (mul a b))
+    (three_turned (mul a b) (mul a c) (mul b c))
 
 -- ---- the vector, for clouds in ascending order
 
@@ -149,3 +157,89 @@ natives_hidden n q x y z narrow pair xy yz low =
         sum_of_three n q x y z (λ d. 2 ^ d) f g h pair xy yz low
         ∙ products_gone a b c byte_a byte_b byte_c
     }
+
+-- two clouds of natives, and the sums
+sums_hidden : (n q x y : ℕ) → 4 ≤ n → n ≤ 10 → q < 2 → x < y → y < n - 2 → IsHidden n q x y (n - 2) (of_three x y (n - 2) (2 ^ y) (2 ^ x) 0)
+sums_hidden n q x y wide narrow pair xy low =
+    let byte_x : 2 ^ x < 256 = power_byte x (omega arith) in
+    let byte_y : 2 ^ y < 256 = power_byte y (omega arith) in
+    record {
+      place = x;
+      low = omega arith;
+      not_zero = λ e. power_some y (sym (three_first x y (n - 2) (2 ^ y) (2 ^ x) 0) ∙ e);
+      bytes = λ k. three_byte x y (n - 2) (2 ^ y) (2 ^ x) 0 k byte_y byte_x (omega arith);
+      only = λ k below nx ny nz. three_else x y (n - 2) (2 ^ y) (2 ^ x) 0 k nx ny nz;
+      sums = λ _ _ ne. absurd (ne refl);
+      powers = λ _ _ _.
+        sum_of_two n q x y (n - 2) (λ d. 2 ^ d) (2 ^ y) (2 ^ x) pair xy low low
+        ∙ ap (bit_xor (mul (2 ^ x) (2 ^ y))) (mul_comm (2 ^ y) (2 ^ x) byte_y byte_x)
+        ∙ xor_self (mul (2 ^ x) (2 ^ y))
+    }
+
+one_some : (x : ℕ) → x ≡ 1 → x ≢ 0
+one_some x one e = absurd (omega (arith, one, e))
+
+-- two clouds of natives, and the weighted sums
+powers_hidden : (n q x y : ℕ) → 4 ≤ n → n ≤ 10 → q < 2 → x < y → y < n - 2 → IsHidden n q x y (n - 1) (of_three x y (n - 1) 1 1 0)
+powers_hidden n q x y wide narrow pair xy low = record {
+  place = x;
+  low = omega arith;
+  not_zero = λ e. one_some _ (three_first x y (n - 1) 1 1 0) e;
+  bytes = λ k. three_byte x y (n - 1) 1 1 0 k (omega arith) (omega arith) (omega arith);
+  only = λ k below nx ny nz. three_else x y (n - 1) 1 1 0 k nx ny nz;
+  sums = λ _ _ _.
+    sum_of_two n q x y (n - 1) (λ d. 1) 1 1 pair xy (omega arith) low
+    ∙ xor_self (mul 1 1);
+  powers = λ _ _ ne. absurd (ne refl)
+}
+
+-- one cloud of natives, and both sums
+both_hidden : (n q x : ℕ) → 4 ≤ n → n ≤ 10 → q < 2 → x < n - 2 → IsHidden n q x (n - 2) (n - 1) (of_three x (n - 2) (n - 1) 1 0 0)
+both_hidden n q x wide narrow pair low = record {
+  place = x;
+  low = low;
+  not_zero = λ e. one_some _ (three_first x (n - 2) (n - 1) 1 0 0) e;
+  bytes = λ k. three_byte x (n - 2) (n - 1) 1 0 0 k (omega arith) (omega arith) (omega arith);
+  only = λ k below nx ny nz. three_else x (n - 2) (n - 1) 1 0 0 k nx ny nz;
+  sums = λ _ ne _. absurd (ne refl);
+  powers = λ _ _ ne. absurd (ne refl)
+}
+
+-- such entries
+abbrev pub Hidden : ℕ → ℕ → ℕ → ℕ → ℕ → Type 0
+Hidden n q a b c = (u : ℕ → ℕ) × IsHidden n q a b c u
+
+weighted : (n q x y : ℕ) → 4 ≤ n → n ≤ 10 → q < 2 → x < y → y < n - 1 → Hidden n q x y (n - 1)
+weighted n q x y wide narrow pair xy low = elim (cases_lt y (n - 2)) [
+    inl natives ↦ (of_three x y (n - 1) 1 1 0, powers_hidden n q x y wide narrow pair xy natives)
+  | inr sums ↦
+      let middle : n - 2 ≡ y = omega arith in
+      subst (λ (b : ℕ). Hidden n q x b (n - 1)) middle (of_three x (n - 2) (n - 1) 1 0 0, both_hidden n q x wide narrow pair (omega arith))
+  ]
+
+sorted : (n q x y z : ℕ) → 4 ≤ n → n ≤ 10 → q < 2 → x < y → y < z → z < n → Hidden n q x y z
+sorted n q x y z wide narrow pair xy yz within = elim (cases_lt z (n - 2)) [
+    inl low ↦ (of_three x y z (bit_xor (2 ^ y) (2 ^ z)) (bit_xor (2 ^ x) (2 ^ z)) (bit_xor (2 ^ x) (2 ^ y)), natives_hidden n q x y z narrow pair xy yz low)
+  | inr high ↦ elim (cases_eq z (n - 2)) [
+        inl is ↦ subst (λ (c : ℕ). Hidden n q x y c) (sym is) (of_three x y (n - 2) (2 ^ y) (2 ^ x) 0, sums_hidden n q x y wide narrow pair xy (omega arith))
+      | inr ne ↦
+          let last : n - 1 ≡ z = omega arith in
+          subst (λ (c : ℕ). Hidden n q x y c) last (weighted n q x y wide narrow pair xy (omega arith))
+      ]
+  ]
+
+swap : (n q a b c : ℕ) → Hidden n q a b c → Hidden n q b a c
+swap n q a b c h = (h.0, swapped n q a b c h.0 h.1)
+
+turn : (n q a b c : ℕ) → Hidden n q a b c → Hidden n q b c a
+turn n q a b c h = (h.0, rotated n q a b c h.0 h.1)
+
+-- for any three clouds, where the first two are in order
+pub hidden : (n q a b c : ℕ) → 4 ≤ n → n ≤ 10 → q < 2 → a < b → b < n → c < n → c ≢ a → c ≢ b → Hidden n q a b c
+hidden n q a b c wide narrow pair less within third na nb = elim (cases_lt b c) [
+    inl after ↦ sorted n q a b c wide narrow pair less after third
+  | inr before ↦ elim (cases_lt a c) [
+        inl middle ↦ swap n q b a c (turn n q c b a (turn n q a c b (sorted n q a c b wide narrow pair middle (omega arith) within)))
+      | inr first ↦ turn n q c a b (sorted n q c a b wide narrow pair (omega arith) less within)
+      ]
+  ]

@@ -1,1 +1,2 @@
 pub mod HiddenVector
+pub mod NoWitness

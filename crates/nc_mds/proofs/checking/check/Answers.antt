@@ -1,4 +1,4 @@
-use Rattle.std.proofs.Common.{ℕ, ◌≡◌, ◌<◌, subst, refl, sym, arith, inl, inr}
+use Rattle.std.proofs.Common.{ℕ, ◌≡◌, subst, refl, arith, inl, inr}
 use Rattle.std.proofs.lemmas.Bool.{cases_lt}
 use Rattle.nc_code.specs.Codes.{IsPairMds}
 use Rattle.nc_mds.proofs.Shown.{first_not_mds}
@@ -10,8 +10,8 @@ returns-in-Some-clause-mds c = λ mds.
 
 pub loop-a-preserved : goal.loop-a-preserved
 loop-a-preserved c = λ i d below less within. elim (cases_lt i c.loop-a.a) [
-    inl before ↦ c.loop-a.invariant i d before less within
+  | inl before ↦ c.loop-a.invariant i d before less within
   | inr here ↦
       let at : c.loop-a.a ≡ i = omega arith in
       subst (λ (x : ℕ). IsPairMds c.args.code.now x d) at (c.in-None.ensures.none refl d (omega arith) within)
-  ]
+]

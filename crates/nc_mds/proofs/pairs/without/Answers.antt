@@ -6,5 +6,5 @@ pub loop-i-init : goal.loop-i-init
 loop-i-init c = record {
   long = refl;
   rows = λ k below. absurd (omega arith);
-  below = λ j k _. no_cells j k
+  below = λ j k _. no_cells j k;
 }

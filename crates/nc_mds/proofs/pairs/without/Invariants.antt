@@ -8,5 +8,5 @@ abbrev pub invariant-loop-i : goal.invariant-loop-i
 invariant-loop-i l = record {
   long : length l.cells ≡ 16;
   rows : (k : ℕ) → k < l.i → row_of l.cells k ≡ code_row l.code (other_cloud l.a l.b (k / 2)) (k % 2);
-  below : (j k : ℕ) → l.i ≤ j → entry l.cells j k ≡ 0
+  below : (j k : ℕ) → l.i ≤ j → entry l.cells j k ≡ 0;
 }
