@@ -20,17 +20,17 @@ lost_row code lost plan r within pair =
     let first = repaired_row code lost plan 0 in
     let second = repaired_row code lost plan 1 in
     elim (cases_eq r 0) [
-      inl e ↦
-        ap (λ (k : ℕ). get_or (set (set code.rows (2 * lost) first) (2 * lost + 1) second) (2 * lost + k) []) e
-        ∙ get_or-set_other (set code.rows (2 * lost) first) (2 * lost + 1) (2 * lost + 0) second [] (omega arith)
-        ∙ ap (λ (k : ℕ). get_or (set code.rows (2 * lost) first) k []) (omega arith)
-        ∙ get_or-set_same code.rows (2 * lost) first [] (omega arith)
-        ∙ ap (repaired_row code lost plan) (sym e)
-    | inr ne ↦
-        let one : r ≡ 1 = omega arith in
-        ap (λ (k : ℕ). get_or (set (set code.rows (2 * lost) first) (2 * lost + 1) second) (2 * lost + k) []) one
-        ∙ get_or-set_same (set code.rows (2 * lost) first) (2 * lost + 1) second [] (omega (arith, length-set code.rows (2 * lost) first))
-        ∙ ap (repaired_row code lost plan) (sym one)
+      | inl e ↦
+          ap (λ (k : ℕ). get_or (set (set code.rows (2 * lost) first) (2 * lost + 1) second) (2 * lost + k) []) e
+          ∙ get_or-set_other (set code.rows (2 * lost) first) (2 * lost + 1) (2 * lost + 0) second [] (omega arith)
+          ∙ ap (λ (k : ℕ). get_or (set code.rows (2 * lost) first) k []) (omega arith)
+          ∙ get_or-set_same code.rows (2 * lost) first [] (omega arith)
+          ∙ ap (repaired_row code lost plan) (sym e)
+      | inr ne ↦
+          let one : r ≡ 1 = omega arith in
+          ap (λ (k : ℕ). get_or (set (set code.rows (2 * lost) first) (2 * lost + 1) second) (2 * lost + k) []) one
+          ∙ get_or-set_same (set code.rows (2 * lost) first) (2 * lost + 1) second [] (omega (arith, length-set code.rows (2 * lost) first))
+          ∙ ap (repaired_row code lost plan) (sym one)
     ]
 
 -- the factor of cloud t in the new row r
@@ -52,9 +52,9 @@ pub record AreFactors (code : CodeParts) (plan : PlanParts) : Type 0 where
 
 term_byte : (code : CodeParts) (lost : ℕ) (plan : PlanParts) (r i t : ℕ) → AreFactors code plan → term code lost plan r i t < 256
 term_byte code lost plan r i t are = elim (cases_eq t lost) [
-    inl e ↦ rw (term_lost code lost plan r i t e) (omega arith)
+  | inl e ↦ rw (term_lost code lost plan r i t e) (omega arith)
   | inr ne ↦ rw (term_survivor code lost plan r i t ne) (mul_lt (coef plan r t) (chosen code plan t i) (are.coefs r t))
-  ]
+]
 
 at_lost : (lost : ℕ) (plan : PlanParts) (r : ℕ) (value : ℕ → ℕ) (t : ℕ) → t ≡ lost → product_term lost plan r value t ≡ 0
 at_lost lost plan r value t e = grind (arith, nat_tests)
@@ -65,16 +65,16 @@ at_survivor lost plan r value t ne = grind (arith, nat_tests)
 cloud_product : (code : CodeParts) (lost : ℕ) (plan : PlanParts) (r m : ℕ) (x : ℕ → ℕ) (t : ℕ) → AreFactors code plan → ((i : ℕ) → x i < 256)
     → total m (λ i. mul (term code lost plan r i t) (x i)) ≡ product_term lost plan r (λ c. total m (λ i. mul (chosen code plan c i) (x i))) t
 cloud_product code lost plan r m x t are bytes = elim (cases_eq t lost) [
-    inl e ↦
+  | inl e ↦
       total_none m _ (λ i _. ap (λ a. mul a (x i)) (term_lost code lost plan r i t e) ∙ zero_mul_any (x i))
       ∙ sym (at_lost lost plan r (λ c. total m (λ i. mul (chosen code plan c i) (x i))) t e)
   | inr ne ↦
       total_same m _ _ (λ i _.
-        ap (λ a. mul a (x i)) (term_survivor code lost plan r i t ne)
-        ∙ mul_assoc (coef plan r t) (chosen code plan t i) (x i) (are.coefs r t) (are.rows (2 * t + slice_index plan.choice t) i) (bytes i))
+      ap (λ a. mul a (x i)) (term_survivor code lost plan r i t ne)
+      ∙ mul_assoc (coef plan r t) (chosen code plan t i) (x i) (are.coefs r t) (are.rows (2 * t + slice_index plan.choice t) i) (bytes i))
       ∙ sym (mul-total_right (coef plan r t) m (λ i. mul (chosen code plan t i) (x i)))
       ∙ sym (at_survivor lost plan r (λ c. total m (λ i. mul (chosen code plan c i) (x i))) t ne)
-  ]
+]
 
 -- The product of the new row r with a vector is the sum, over the survivors t, of coefs[r][t] times the product of the
 -- row that the plan takes from t.
@@ -83,8 +83,8 @@ pub new_row_product : (code : CodeParts) (lost : ℕ) (plan : PlanParts) (r m : 
 unfolding repaired_row
 new_row_product code lost plan r m x few are bytes =
     total_same m _ _ (λ i below.
-      ap (λ a. mul a (x i)) (get_or-map-range_with_len (repaired_entry code lost plan r) 0 16 i i 0 (omega arith) (omega arith))
-      ∙ mul-total_left code.width (term code lost plan r i) (x i) (λ t _. term_byte code lost plan r i t are))
+    ap (λ a. mul a (x i)) (get_or-map-range_with_len (repaired_entry code lost plan r) 0 16 i i 0 (omega arith) (omega arith))
+    ∙ mul-total_left code.width (term code lost plan r i) (x i) (λ t _. term_byte code lost plan r i t are))
     ∙ total_swap m code.width (λ i t. mul (term code lost plan r i t) (x i))
     ∙ total_same code.width _ _ (λ t _. cloud_product code lost plan r m x t are bytes)
 
@@ -95,8 +95,8 @@ pub new_row_zero : (code : CodeParts) (lost : ℕ) (plan : PlanParts) (r m : ℕ
 new_row_zero code lost plan r m x few are bytes zero =
     new_row_product code lost plan r m x few are bytes
     ∙ total_none code.width _ (λ t below. elim (cases_eq t lost) [
-        inl e ↦ at_lost lost plan r (λ c. total m (λ i. mul (chosen code plan c i) (x i))) t e
+      | inl e ↦ at_lost lost plan r (λ c. total m (λ i. mul (chosen code plan c i) (x i))) t e
       | inr ne ↦
           at_survivor lost plan r (λ c. total m (λ i. mul (chosen code plan c i) (x i))) t ne
           ∙ ap (mul (coef plan r t)) (zero t below ne) ∙ mul_zero (coef plan r t)
-      ])
+    ])

@@ -36,3 +36,8 @@ IsVerdict code (Fails a b kernel) = IsFirstPair code a b kernel
 -- the cloud at position p among those other than a and b, where a is below b
 abbrev pub other_cloud : ℕ → ℕ → ℕ → ℕ
 other_cloud a b p = if nat_lt p a then p else if nat_lt (p + 1) b then p + 1 else p + 2
+
+-- the code isn't MDS
+abbrev pub IsFails : Verdict → Type 0
+IsFails Mds = ⊥
+IsFails (Fails a b kernel) = Unit {0}

@@ -1,2 +1,3 @@
 pub mod HiddenVector
 pub mod NoWitness
+pub mod PlanLemmas

@@ -2,5 +2,9 @@
 #![tactic(auto)]
 
 mod laws;
+mod reading;
+mod witness;
 
-pub use laws::striped_has_no_witness;
+pub use laws::{check_striped_repair, striped_has_no_witness};
+pub use reading::{plan_len, read_plan};
+pub use witness::{check_witness, first_witness};
