@@ -19,7 +19,7 @@ pub fn check_witness(code: &Code, lost: u8, plan: &Plan) -> Verdict
     check(&repaired(code, lost, plan))
 }
 
-fn is_witness(code: &Code, lost: u8, plan: &Plan) -> bool
+pub fn is_witness(code: &Code, lost: u8, plan: &Plan) -> bool
     requires { lost < code.now.width }
     ensures { IsTrue result ↔ IsWitness code.now lost plan.now }
 {
