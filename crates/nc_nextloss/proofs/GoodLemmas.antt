@@ -28,7 +28,7 @@ pub plan_for : (code : CodeParts) (w : Witnesses) (lost : ℕ) → IsGood code w
 plan_for code w lost good = record {
   witness = good.witness lost;
   bare = good.bare lost;
-  past = good.past lost
+  past = good.past lost;
 }
 
 pub good_of : (code : CodeParts) (w : Witnesses) (n : ℕ) → IsCode code → length w.plans ≡ 10 → 10 ≤ n → IsMds code
@@ -38,16 +38,16 @@ good_of code w n kept count all mds each = record {
   witness = λ lost low. (each lost (omega (arith, kept.narrow))).witness low;
   bare = λ lost low. (each lost (omega (arith, kept.narrow))).bare low;
   past = λ lost high. elim (cases_lt lost 10) [
-      inl below ↦ (each lost (omega arith)).past high
+    | inl below ↦ (each lost (omega arith)).past high
     | inr beyond ↦ get_or_past w.plans lost no_plan (omega (arith, count))
-    ]
+  ];
 }
 
 pub one_more : (code : CodeParts) (w : Witnesses) (n : ℕ) (plan : PlanParts) → ((j : ℕ) → j < n → IsPlanFor code j (plan_of w j))
     → plan ≡ plan_of w n → IsPlanFor code n plan → (j : ℕ) → j < n + 1 → IsPlanFor code j (plan_of w j)
 one_more code w n plan each is here j below = elim (cases_lt j n) [
-    inl before ↦ each j before
+  | inl before ↦ each j before
   | inr at ↦
       let same : n ≡ j = omega arith in
       subst (λ (k : ℕ). IsPlanFor code k (plan_of w k)) same (subst (λ (p : PlanParts). IsPlanFor code n p) is here)
-  ]
+]

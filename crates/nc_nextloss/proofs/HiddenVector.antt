@@ -1,13 +1,11 @@
 -- For three clouds of the striped code, a vector in one stripe that the rows of all other clouds send to 0.
-use Rattle.std.proofs.Common.{◌≡◌, ◌≢◌, ℕ, zero, suc, ◌+◌, ◌-◌, ◌*◌, ◌/◌, ◌%◌, ◌^◌, ◌<◌, ◌≤◌, ◌==◌, bit_xor, refl, sym, ap, ◌∙◌, subst, arith, ◌⊎◌, inl, inr, if◌then◌else◌}
-use Rattle.std.specs.Int.Bits.{xor_self, xor_zero_l, xor_zero_r, xor_comm, xor_assoc}
+use Rattle.std.proofs.Common.{◌≡◌, ◌≢◌, ℕ, ◌+◌, ◌-◌, ◌*◌, ◌/◌, ◌%◌, ◌^◌, ◌<◌, ◌≤◌, ◌==◌, bit_xor, refl, sym, ap, ◌∙◌, subst, arith, inl, inr, if◌then◌else◌}
+use Rattle.std.specs.Int.Bits.{xor_self, xor_zero_l, xor_comm, xor_assoc}
 use Rattle.std.proofs.lemmas.Bool.{cases_lt, cases_eq}
 use Rattle.std.proofs.lemmas.Bool.Decides.{nat_tests}
-use Rattle.std.proofs.lemmas.Nat.{pow_below, pow_pos}
-use Rattle.nc_gf256.specs.Field.{mul, total}
-use Rattle.nc_gf256.specs.Width.{native_count}
+use Rattle.nc_gf256.specs.Field.{mul}
 use Rattle.nc_gf256.proofs.FieldLaws.{mul_comm, mul-xor_right, one_mul}
-use Rattle.nc_gf256.proofs.Sums.{same_of_xor, xor_byte}
+use Rattle.nc_gf256.proofs.Sums.{xor_byte}
 use Rattle.nc_code.specs.Striped.{stripe}
 use Rattle.nc_mds.proofs.StripedRows.{along, stripe_on, two_left, three_left}
 use Rattle.nc_mds.proofs.StripedMds.{power_byte, power_some, powers_differ}
@@ -31,7 +29,7 @@ swapped n q a b c u h = record {
   bytes = h.bytes;
   only = λ k low nb na nc. h.only k low na nb nc;
   sums = λ nb na nc. h.sums na nb nc;
-  powers = λ nb na nc. h.powers na nb nc
+  powers = λ nb na nc. h.powers na nb nc;
 }
 
 rotated : (n q a b c : ℕ) (u : ℕ → ℕ) → IsHidden n q a b c u → IsHidden n q b c a u
@@ -42,7 +40,7 @@ rotated n q a b c u h = record {
   bytes = h.bytes;
   only = λ k low nb nc na. h.only k low na nb nc;
   sums = λ nb nc na. h.sums na nb nc;
-  powers = λ nb nc na. h.powers na nb nc
+  powers = λ nb nc na. h.powers na nb nc;
 }
 
 -- ---- the entries
@@ -82,9 +80,9 @@ three_zero : (a b c : ℕ) → bit_xor (bit_xor (bit_xor b c) (bit_xor a c)) (bi
 three_zero a b c =
     let ac = xor_comm a c in
     let first : bit_xor (bit_xor b c) (bit_xor a c) ≡ bit_xor a b =
-        ap (bit_xor (bit_xor b c)) ac ∙ xor_assoc b c (bit_xor c a)
-        ∙ ap (bit_xor b) (sym (xor_assoc c c a) ∙ ap (λ x. bit_xor x a) (xor_self c) ∙ xor_zero_l a)
-        ∙ xor_comm b a in
+    ap (bit_xor (bit_xor b c)) ac ∙ xor_assoc b c (bit_xor c a)
+    ∙ ap (bit_xor b) (sym (xor_assoc c c a) ∙ ap (λ x. bit_xor x a) (xor_self c) ∙ xor_zero_l a)
+    ∙ xor_comm b a in
     ap (λ x. bit_xor x (bit_xor a b)) first ∙ xor_self (bit_xor a b)
 
 -- (a + b) + (a + c) + (b + c) = 0
@@ -150,12 +148,12 @@ natives_hidden n q x y z narrow pair xy yz low =
       bytes = λ k. three_byte x y z f g h k byte_f byte_g byte_h;
       only = λ k below nx ny nz. three_else x y z f g h k nx ny nz;
       sums = λ _ _ _.
-        sum_of_three n q x y z (λ d. 1) f g h pair xy yz low
-        ∙ ones_gone f g h byte_f byte_g byte_h
-        ∙ three_zero a b c;
+          sum_of_three n q x y z (λ d. 1) f g h pair xy yz low
+          ∙ ones_gone f g h byte_f byte_g byte_h
+          ∙ three_zero a b c;
       powers = λ _ _ _.
-        sum_of_three n q x y z (λ d. 2 ^ d) f g h pair xy yz low
-        ∙ products_gone a b c byte_a byte_b byte_c
+          sum_of_three n q x y z (λ d. 2 ^ d) f g h pair xy yz low
+          ∙ products_gone a b c byte_a byte_b byte_c;
     }
 
 -- two clouds of natives, and the sums
@@ -171,9 +169,9 @@ sums_hidden n q x y wide narrow pair xy low =
       only = λ k below nx ny nz. three_else x y (n - 2) (2 ^ y) (2 ^ x) 0 k nx ny nz;
       sums = λ _ _ ne. absurd (ne refl);
       powers = λ _ _ _.
-        sum_of_two n q x y (n - 2) (λ d. 2 ^ d) (2 ^ y) (2 ^ x) pair xy low low
-        ∙ ap (bit_xor (mul (2 ^ x) (2 ^ y))) (mul_comm (2 ^ y) (2 ^ x) byte_y byte_x)
-        ∙ xor_self (mul (2 ^ x) (2 ^ y))
+          sum_of_two n q x y (n - 2) (λ d. 2 ^ d) (2 ^ y) (2 ^ x) pair xy low low
+          ∙ ap (bit_xor (mul (2 ^ x) (2 ^ y))) (mul_comm (2 ^ y) (2 ^ x) byte_y byte_x)
+          ∙ xor_self (mul (2 ^ x) (2 ^ y));
     }
 
 one_some : (x : ℕ) → x ≡ 1 → x ≢ 0
@@ -188,9 +186,9 @@ powers_hidden n q x y wide narrow pair xy low = record {
   bytes = λ k. three_byte x y (n - 1) 1 1 0 k (omega arith) (omega arith) (omega arith);
   only = λ k below nx ny nz. three_else x y (n - 1) 1 1 0 k nx ny nz;
   sums = λ _ _ _.
-    sum_of_two n q x y (n - 1) (λ d. 1) 1 1 pair xy (omega arith) low
-    ∙ xor_self (mul 1 1);
-  powers = λ _ _ ne. absurd (ne refl)
+      sum_of_two n q x y (n - 1) (λ d. 1) 1 1 pair xy (omega arith) low
+      ∙ xor_self (mul 1 1);
+  powers = λ _ _ ne. absurd (ne refl);
 }
 
 -- one cloud of natives, and both sums
@@ -202,7 +200,7 @@ both_hidden n q x wide narrow pair low = record {
   bytes = λ k. three_byte x (n - 2) (n - 1) 1 0 0 k (omega arith) (omega arith) (omega arith);
   only = λ k below nx ny nz. three_else x (n - 2) (n - 1) 1 0 0 k nx ny nz;
   sums = λ _ ne _. absurd (ne refl);
-  powers = λ _ _ ne. absurd (ne refl)
+  powers = λ _ _ ne. absurd (ne refl);
 }
 
 -- such entries
@@ -211,22 +209,22 @@ Hidden n q a b c = (u : ℕ → ℕ) × IsHidden n q a b c u
 
 weighted : (n q x y : ℕ) → 4 ≤ n → n ≤ 10 → q < 2 → x < y → y < n - 1 → Hidden n q x y (n - 1)
 weighted n q x y wide narrow pair xy low = elim (cases_lt y (n - 2)) [
-    inl natives ↦ (of_three x y (n - 1) 1 1 0, powers_hidden n q x y wide narrow pair xy natives)
+  | inl natives ↦ (of_three x y (n - 1) 1 1 0, powers_hidden n q x y wide narrow pair xy natives)
   | inr sums ↦
       let middle : n - 2 ≡ y = omega arith in
       subst (λ (b : ℕ). Hidden n q x b (n - 1)) middle (of_three x (n - 2) (n - 1) 1 0 0, both_hidden n q x wide narrow pair (omega arith))
-  ]
+]
 
 sorted : (n q x y z : ℕ) → 4 ≤ n → n ≤ 10 → q < 2 → x < y → y < z → z < n → Hidden n q x y z
 sorted n q x y z wide narrow pair xy yz within = elim (cases_lt z (n - 2)) [
-    inl low ↦ (of_three x y z (bit_xor (2 ^ y) (2 ^ z)) (bit_xor (2 ^ x) (2 ^ z)) (bit_xor (2 ^ x) (2 ^ y)), natives_hidden n q x y z narrow pair xy yz low)
+  | inl low ↦ (of_three x y z (bit_xor (2 ^ y) (2 ^ z)) (bit_xor (2 ^ x) (2 ^ z)) (bit_xor (2 ^ x) (2 ^ y)), natives_hidden n q x y z narrow pair xy yz low)
   | inr high ↦ elim (cases_eq z (n - 2)) [
-        inl is ↦ subst (λ (c : ℕ). Hidden n q x y c) (sym is) (of_three x y (n - 2) (2 ^ y) (2 ^ x) 0, sums_hidden n q x y wide narrow pair xy (omega arith))
-      | inr ne ↦
-          let last : n - 1 ≡ z = omega arith in
-          subst (λ (c : ℕ). Hidden n q x y c) last (weighted n q x y wide narrow pair xy (omega arith))
-      ]
+    | inl is ↦ subst (λ (c : ℕ). Hidden n q x y c) (sym is) (of_three x y (n - 2) (2 ^ y) (2 ^ x) 0, sums_hidden n q x y wide narrow pair xy (omega arith))
+    | inr ne ↦
+        let last : n - 1 ≡ z = omega arith in
+        subst (λ (c : ℕ). Hidden n q x y c) last (weighted n q x y wide narrow pair xy (omega arith))
   ]
+]
 
 swap : (n q a b c : ℕ) → Hidden n q a b c → Hidden n q b a c
 swap n q a b c h = (h.0, swapped n q a b c h.0 h.1)
@@ -237,9 +235,9 @@ turn n q a b c h = (h.0, rotated n q a b c h.0 h.1)
 -- for any three clouds, where the first two are in order
 pub hidden : (n q a b c : ℕ) → 4 ≤ n → n ≤ 10 → q < 2 → a < b → b < n → c < n → c ≢ a → c ≢ b → Hidden n q a b c
 hidden n q a b c wide narrow pair less within third na nb = elim (cases_lt b c) [
-    inl after ↦ sorted n q a b c wide narrow pair less after third
+  | inl after ↦ sorted n q a b c wide narrow pair less after third
   | inr before ↦ elim (cases_lt a c) [
-        inl middle ↦ swap n q b a c (turn n q c b a (turn n q a c b (sorted n q a c b wide narrow pair middle (omega arith) within)))
-      | inr first ↦ turn n q c a b (sorted n q c a b wide narrow pair (omega arith) less within)
-      ]
+    | inl middle ↦ swap n q b a c (turn n q c b a (turn n q a c b (sorted n q a c b wide narrow pair middle (omega arith) within)))
+    | inr first ↦ turn n q c a b (sorted n q c a b wide narrow pair (omega arith) less within)
   ]
+]

@@ -1,5 +1,5 @@
 -- Plans that are read from bytes, and tries that are read one after the other.
-use Rattle.std.proofs.Common.{◌≡◌, ◌≢◌, ℕ, ◌+◌, ◌-◌, ◌*◌, ◌%◌, ◌<◌, ◌≤◌, List, [], ◌∷◌, get_or, map, slice_index, slice_index_or, refl, sym, ap, ◌∙◌, subst, arith, inl, inr, add-zero, true}
+use Rattle.std.proofs.Common.{◌≡◌, ℕ, ◌+◌, ◌*◌, ◌<◌, ◌≤◌, List, [], ◌∷◌, get_or, map, slice_index, slice_index_or, refl, sym, ap, ◌∙◌, subst, arith, inl, inr, add-zero, true}
 use Rattle.std.specs.List.{range_with_len}
 use Rattle.std.proofs.lemmas.Bool.{cases_lt}
 use Rattle.std.proofs.lemmas.Bool.Decides.{nat_tests}
@@ -7,7 +7,7 @@ use Rattle.std.proofs.lemmas.List.{get_or_past}
 use Rattle.std.proofs.lemmas.List.FromFn.{get_or-map-range_with_len, length-map-range_with_len}
 use Rattle.nc_code.specs.Parts.{CodeParts, PlanParts}
 use Rattle.nc_code.specs.Codes.{IsBare, IsWitness, IsMds}
-use Rattle.nc_code.specs.Tries.{is_bare, position_of, choice_at, coef_at, coefs_at, plan_at, plan_len, from, try_at}
+use Rattle.nc_code.specs.Tries.{is_bare, choice_at, coef_at, coefs_at, plan_at, plan_len, from, try_at}
 use Rattle.nc_mds.specs.Verdicts.{IsVerdict, IsFails}
 use Rattle.nc_mds.specs.declared.verdict.Verdict.{Verdict}
 use Rattle.nc_mds.specs.declared.verdict.Verdict.TheVariants.{Mds, Fails}
@@ -18,15 +18,15 @@ use Rattle.nc_nextloss.specs.Firsts.{IsGoodTry}
 -- what holds of each value of a function, and of 0, holds of each entry of its list
 small_at : (f : ℕ → ℕ) (t : ℕ) → ((k : ℕ) → f k < 2) → get_or (map f (range_with_len 0 10)) t 0 < 2
 small_at f t h = elim (cases_lt t 10) [
-    inl below ↦ rw (get_or-map-range_with_len f 0 10 t t 0 below (omega arith)) (h t)
+  | inl below ↦ rw (get_or-map-range_with_len f 0 10 t t 0 below (omega arith)) (h t)
   | inr past ↦ rw (get_or_past (map f (range_with_len 0 10)) t 0 (omega (arith, length-map-range_with_len f 0 10))) (omega arith)
-  ]
+]
 
 zero_at : (f : ℕ → ℕ) (t : ℕ) → f t ≡ 0 → get_or (map f (range_with_len 0 10)) t 0 ≡ 0
 zero_at f t h = elim (cases_lt t 10) [
-    inl below ↦ get_or-map-range_with_len f 0 10 t t 0 below (omega arith) ∙ h
+  | inl below ↦ get_or-map-range_with_len f 0 10 t t 0 below (omega arith) ∙ h
   | inr past ↦ get_or_past (map f (range_with_len 0 10)) t 0 (omega (arith, length-map-range_with_len f 0 10))
-  ]
+]
 
 choice_small : (n lost : ℕ) (base byte : ℕ → ℕ) (t : ℕ) → base t < 2 → choice_at n lost base byte t < 2
 choice_small n lost base byte t h = grind (arith, nat_tests)
@@ -48,11 +48,11 @@ coef_bare n lost byte r t e = rw e
 
 coefs_bare : (n lost : ℕ) (byte : ℕ → ℕ) (r t : ℕ) → is_bare n lost t ≡ true → slice_index (slice_index_or (map (coefs_at n lost byte) (range_with_len 0 2)) r []) t ≡ 0
 coefs_bare n lost byte r t e = elim (cases_lt r 2) [
-    inl row ↦
+  | inl row ↦
       ap (λ (x : List ℕ). slice_index x t) (get_or-map-range_with_len (coefs_at n lost byte) 0 2 r r [] row (omega arith))
       ∙ zero_at (coef_at n lost byte r) t (coef_bare n lost byte r t e)
   | inr past ↦ ap (λ (x : List ℕ). slice_index x t) (get_or_past (map (coefs_at n lost byte) (range_with_len 0 2)) r [] (omega (arith, length-map-range_with_len (coefs_at n lost byte) 0 2)))
-  ]
+]
 
 -- a plan that is read says nothing of the lost cloud, nor past the width
 pub plan_bare : (n lost : ℕ) (base byte : ℕ → ℕ) → IsBare n lost (plan_at n lost base byte)
@@ -61,7 +61,7 @@ plan_bare n lost base byte = record {
   choice = zero_at (choice_at n lost base byte) lost (choice_bare n lost base byte lost (bare_lost n lost lost refl));
   choice_past = λ t h. zero_at (choice_at n lost base byte) t (choice_bare n lost base byte t (bare_past n lost t h));
   coefs = λ r. coefs_bare n lost byte r lost (bare_lost n lost lost refl);
-  coefs_past = λ r t h. coefs_bare n lost byte r t (bare_past n lost t h)
+  coefs_past = λ r t h. coefs_bare n lost byte r t (bare_past n lost t h);
 }
 
 abbrev pub plan_of_rows : List ℕ → List ℕ → List ℕ → PlanParts
@@ -91,7 +91,7 @@ pub not_tried : (code : CodeParts) (w each j k lost : ℕ) (base byte : ℕ → 
     → plan ≡ plan_at w lost base (from (j * each) byte) → (IsWitness code lost plan → ⊥) → IsGoodTry code lost base byte k → ⊥
 not_tried code w each j k lost base byte plan width len same is refuse good =
     let tried : plan ≡ try_at code.width lost base byte k =
-        tried_is code w each j lost base byte plan width len is ∙ ap (try_at code.width lost base byte) same in
+    tried_is code w each j lost base byte plan width len is ∙ ap (try_at code.width lost base byte) same in
     refuse (subst (λ (p : PlanParts). IsWitness code lost p) (sym tried) good)
 
 -- ---- verdicts

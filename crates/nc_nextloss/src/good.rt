@@ -3,12 +3,10 @@ ghost use Rattle.nc_code.specs.Codes.{IsBare, no_plan};
 ghost use Rattle.nc_code.specs.Good.{IsGood};
 ghost use Rattle.nc_nextloss.specs.GoodCodes.{IsPlanFor, IsBlank};
 
-use std::marker::Model;
-
+use crate::witness::is_witness;
 use nc_code::{Code, Plan, Witnesses};
 use nc_mds::{Verdict, check};
-
-use crate::witness::is_witness;
+use std::marker::Model;
 
 /// A code that is MDS, with a plan for each next loss that leaves an MDS code. What isn't stored of the plans is 0.
 #[derive(Clone, Copy, Debug)]

@@ -5,10 +5,9 @@ ghost use Rattle.nc_mds.specs.Verdicts.{IsVerdict};
 ghost use Rattle.nc_mds.specs.declared.verdict.Verdict.TheVariants.{Mds};
 ghost use Rattle.nc_nextloss.specs.Firsts.{IsFirstWitness, IsGoodTry};
 
+use crate::reading::{plan_len, read_plan};
 use nc_code::{Code, Plan, repaired};
 use nc_mds::{Verdict, check};
-
-use crate::reading::{plan_len, read_plan};
 
 /// Whether a plan is a witness of a loss: the verdict on the code that the repair makes.
 pub fn check_witness(code: &Code, lost: u8, plan: &Plan) -> Verdict
