@@ -1,3 +1,4 @@
+pub mod RepairDots
 pub mod RepairLemmas
 pub mod RowSums
 pub mod SameParts

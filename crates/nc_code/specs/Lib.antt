@@ -3,3 +3,4 @@ pub mod Codes
 pub mod Striped
 pub mod Good
 pub mod RepairLaw
+pub mod Tries

@@ -1,4 +1,4 @@
-ghost use Rattle.std.specs.Prelude.{◌≡◌, ◌<◌, ℕ, slice_index};
+ghost use Rattle.std.specs.Prelude.{◌≡◌, ◌<◌, ℕ, length, slice_index};
 ghost use Rattle.nc_code.specs.Parts.{IsPlan, IsTable, IsRow};
 ghost use Rattle.nc_code.specs.Codes.{no_plan};
 ghost use Rattle.nc_code.specs.Good.{plan_of};
@@ -61,6 +61,13 @@ impl Plan {
 }
 
 impl Witnesses {
+    /// Tells how many plans there are.
+    pub fn kept(&self)
+        ensures { length self.now.plans ≡ 10 }
+    {
+        let _plans = &self.plans;
+    }
+
     /// The plan for the loss of cloud `lost`.
     pub fn plan(&self, lost: u8) -> &Plan
         requires { lost < 10 }

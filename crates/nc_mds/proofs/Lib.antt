@@ -1,2 +1,4 @@
+pub mod PairProofs
+pub mod Shown
 pub mod StripedRows
 pub mod StripedMds

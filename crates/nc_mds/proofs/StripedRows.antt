@@ -1,14 +1,14 @@
 -- The rows of the striped code, and their dot products with a vector.
-use Rattle.std.proofs.Common.{◌≡◌, ◌≢◌, ℕ, ◌+◌, ◌-◌, ◌*◌, ◌/◌, ◌%◌, ◌^◌, ◌<◌, ◌≤◌, List, [], map, bit_xor, slice_index, refl, sym, ap, ◌∙◌, subst, arith, inl, inr}
+use Rattle.std.proofs.Common.{◌≡◌, ◌≢◌, ℕ, ◌+◌, ◌-◌, ◌*◌, ◌/◌, ◌%◌, ◌^◌, ◌<◌, ◌≤◌, List, [], map, bit_xor, slice_index, refl, sym, ap, ◌∙◌, arith, inl, inr}
 use Rattle.std.specs.List.{range_with_len}
-use Rattle.std.proofs.lemmas.Bool.{cases_lt, cases_eq}
+use Rattle.std.proofs.lemmas.Bool.{cases_eq}
 use Rattle.std.proofs.lemmas.Bool.Decides.{nat_tests}
 use Rattle.std.proofs.lemmas.List.FromFn.{get_or-map-range_with_len}
 use Rattle.nc_gf256.specs.Field.{mul, total}
 use Rattle.nc_gf256.specs.Rows.{dot}
 use Rattle.nc_gf256.specs.Width.{native_count}
 use Rattle.nc_gf256.proofs.FieldLaws.{mul_zero, zero_mul_any, one_mul}
-use Rattle.nc_gf256.proofs.Sums.{total_same, total_one, total_two}
+use Rattle.nc_gf256.proofs.Sums.{total_same, total_one, total_two, total_three}
 use Rattle.nc_code.specs.Codes.{code_row}
 use Rattle.nc_code.specs.Striped.{unit, stripe, striped_entry, striped_row, striped_code}
 
@@ -37,10 +37,10 @@ entry_sums n s i wide below = grind (arith, nat_tests)
 entry_powers : (n s i : ℕ) → 4 ≤ n → i < native_count n → striped_entry n (n - 1) s i ≡ stripe s (λ d. 2 ^ d) i
 entry_powers n s i wide below = grind (arith, nat_tests)
 
-stripe_on : (s k : ℕ) (w : ℕ → ℕ) → k % 2 ≡ s → stripe s w k ≡ w (k / 2)
+pub stripe_on : (s k : ℕ) (w : ℕ → ℕ) → k % 2 ≡ s → stripe s w k ≡ w (k / 2)
 stripe_on s k w e = grind (arith, nat_tests)
 
-stripe_off : (s k : ℕ) (w : ℕ → ℕ) → k % 2 ≢ s → stripe s w k ≡ 0
+pub stripe_off : (s k : ℕ) (w : ℕ → ℕ) → k % 2 ≢ s → stripe s w k ≡ 0
 stripe_off s k w e = grind (arith, nat_tests)
 
 -- ---- dot products
@@ -51,9 +51,9 @@ along n s w x = total (native_count n) (λ i. mul (stripe s w i) (x i))
 
 off_zero : (s k : ℕ) (w x : ℕ → ℕ) → (k % 2 ≡ s → x k ≡ 0) → mul (stripe s w k) (x k) ≡ 0
 off_zero s k w x h = elim (cases_eq (k % 2) s) [
-    inl e ↦ ap (mul (stripe s w k)) (h e) ∙ mul_zero (stripe s w k)
+  | inl e ↦ ap (mul (stripe s w k)) (h e) ∙ mul_zero (stripe s w k)
   | inr ne ↦ ap (λ a. mul a (x k)) (stripe_off s k w ne) ∙ zero_mul_any (x k)
-  ]
+]
 
 on_place : (s d : ℕ) (w x : ℕ → ℕ) → s < 2 → mul (stripe s w (2 * d + s)) (x (2 * d + s)) ≡ mul (w d) (x (2 * d + s))
 on_place s d w x pair =
@@ -66,8 +66,8 @@ pub one_left : (n s d : ℕ) (w x : ℕ → ℕ) → s < 2 → d < n - 2 → ((c
 one_left n s d w x pair low others =
     total_one (native_count n) (λ i. mul (stripe s w i) (x i)) (2 * d + s) (omega arith)
     (λ k below ne. off_zero s k w x (λ e.
-        let place : 2 * (k / 2) + s ≡ k = omega arith in
-        ap x (sym place) ∙ others (k / 2) (omega arith) (omega arith)))
+    let place : 2 * (k / 2) + s ≡ k = omega arith in
+    ap x (sym place) ∙ others (k / 2) (omega arith) (omega arith)))
     ∙ on_place s d w x pair
 
 pub two_left : (n s d e : ℕ) (w x : ℕ → ℕ) → s < 2 → d < n - 2 → e < n - 2 → d ≢ e → ((c : ℕ) → c < n - 2 → c ≢ d → c ≢ e → x (2 * c + s) ≡ 0)
@@ -75,10 +75,22 @@ pub two_left : (n s d e : ℕ) (w x : ℕ → ℕ) → s < 2 → d < n - 2 → e
 two_left n s d e w x pair low low2 apart others =
     total_two (native_count n) (λ i. mul (stripe s w i) (x i)) (2 * d + s) (2 * e + s) (omega arith) (omega arith) (omega arith)
     (λ k below ne ne2. off_zero s k w x (λ is.
-        let place : 2 * (k / 2) + s ≡ k = omega arith in
-        ap x (sym place) ∙ others (k / 2) (omega arith) (omega arith) (omega arith)))
+    let place : 2 * (k / 2) + s ≡ k = omega arith in
+    ap x (sym place) ∙ others (k / 2) (omega arith) (omega arith) (omega arith)))
     ∙ ap (λ a. bit_xor a (mul (stripe s w (2 * e + s)) (x (2 * e + s)))) (on_place s d w x pair)
     ∙ ap (bit_xor (mul (w d) (x (2 * d + s)))) (on_place s e w x pair)
+
+pub three_left : (n s d e f : ℕ) (w x : ℕ → ℕ) → s < 2 → d < n - 2 → e < n - 2 → f < n - 2 → d ≢ e → d ≢ f → e ≢ f
+    → ((c : ℕ) → c < n - 2 → c ≢ d → c ≢ e → c ≢ f → x (2 * c + s) ≡ 0)
+    → along n s w x ≡ bit_xor (bit_xor (mul (w d) (x (2 * d + s))) (mul (w e) (x (2 * e + s)))) (mul (w f) (x (2 * f + s)))
+three_left n s d e f w x pair low low2 low3 de df ef others =
+    total_three (native_count n) (λ i. mul (stripe s w i) (x i)) (2 * d + s) (2 * e + s) (2 * f + s) (omega arith) (omega arith) (omega arith) (omega arith) (omega arith) (omega arith)
+    (λ k below ne ne2 ne3. off_zero s k w x (λ is.
+    let place : 2 * (k / 2) + s ≡ k = omega arith in
+    ap x (sym place) ∙ others (k / 2) (omega arith) (omega arith) (omega arith) (omega arith)))
+    ∙ ap (λ a. bit_xor (bit_xor a (mul (stripe s w (2 * e + s)) (x (2 * e + s)))) (mul (stripe s w (2 * f + s)) (x (2 * f + s)))) (on_place s d w x pair)
+    ∙ ap (λ a. bit_xor (bit_xor (mul (w d) (x (2 * d + s))) a) (mul (stripe s w (2 * f + s)) (x (2 * f + s)))) (on_place s e w x pair)
+    ∙ ap (bit_xor (bit_xor (mul (w d) (x (2 * d + s))) (mul (w e) (x (2 * e + s))))) (on_place s f w x pair)
 
 unit_on : (j k : ℕ) → k ≡ j → unit j k ≡ 1
 unit_on j k e = grind (arith, nat_tests)
@@ -97,7 +109,7 @@ dot_is : (n c s : ℕ) (v : List ℕ) (f : ℕ → ℕ) → n ≤ 10 → c < n �
     → dot (native_count n) (code_row (striped_code n) c s) v ≡ total (native_count n) (λ i. mul (f i) (slice_index v i))
 dot_is n c s v f narrow low pair h =
     total_same (native_count n) _ _ (λ i below.
-        ap (λ a. mul a (slice_index v i)) (entry_is n c s i (omega arith) pair (omega arith) ∙ h i below))
+    ap (λ a. mul a (slice_index v i)) (entry_is n c s i (omega arith) pair (omega arith) ∙ h i below))
 
 pub dot_native : (n c s : ℕ) (v : List ℕ) → n ≤ 10 → c < n - 2 → s < 2 → slice_index v (2 * c + s) < 256
     → dot (native_count n) (code_row (striped_code n) c s) v ≡ slice_index v (2 * c + s)

@@ -1,0 +1,49 @@
+ghost use Rattle.std.specs.Prelude.{◌≡◌, ◌+◌, ◌-◌, ◌<◌, ◌≤◌, ℕ, IsNone, IfSome, slice_index_or, []};
+ghost use Rattle.nc_gf256.specs.Width.{native_count};
+ghost use Rattle.nc_code.specs.Codes.{IsPairMds};
+ghost use Rattle.nc_mds.specs.Verdicts.{Shows, other_cloud};
+ghost use Rattle.nc_mds.specs.Others.{AreOthers};
+
+use nc_code::Code;
+use nc_matrix::{Outcome, Square, invert};
+
+/// A vector that shows that the rows of the clouds other than `a` and `b` are dependent. None where they are independent.
+pub fn pair_kernel(code: &Code, a: u8, b: u8) -> Option<[u8; 16]>
+    requires less { a < b }
+    requires within { b < code.now.width }
+    ensures some { IfSome result (λ kernel. Shows code.now a b kernel) }
+    ensures none { IsNone result → IsPairMds code.now a b }
+{
+    match invert(&without(code, a, b)) {
+        Outcome::Inverse(_) => None,
+        Outcome::Kernel(kernel) => Some(kernel),
+    }
+}
+
+/// The rows of the clouds other than `a` and `b`, which are as many as there are natives.
+fn without(code: &Code, a: u8, b: u8) -> Square
+    requires less { a < b }
+    requires within { b < code.now.width }
+    ensures { AreOthers code.now a b result }
+{
+    let size = 2 * (code.width - 2);
+    let mut cells = [[0; 16]; 16];
+    for i in 0..size {
+        cells[i as usize] = code.row(other_cloud(a, b, i / 2), i % 2);
+    }
+    Square { size, cells }
+}
+
+/// The cloud at position `p` among those other than `a` and `b`.
+fn other_cloud(a: u8, b: u8, p: u8) -> u8
+    requires { p < 8 }
+    ensures { result ≡ other_cloud a b p }
+{
+    if p < a {
+        p
+    } else if p + 1 < b {
+        p + 1
+    } else {
+        p + 2
+    }
+}

@@ -1,0 +1,4 @@
+pub mod HiddenVector
+pub mod NoWitness
+pub mod PlanLemmas
+pub mod GoodLemmas
