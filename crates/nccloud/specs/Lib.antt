@@ -1,0 +1,10 @@
+pub mod Codes
+pub mod Counts
+pub mod FirstMeta
+pub mod Input
+pub mod Look
+pub mod Marks
+pub mod Rounds
+pub mod Run
+pub mod Store
+pub mod Words

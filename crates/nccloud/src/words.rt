@@ -1,0 +1,51 @@
+ghost use Rattle.std.specs.Prelude.{◌≡◌, ◌≢◌, ℕ, List, [], ◌∷◌, map, IfSome, IfNone, IfOk, IfErr, string_bytes};
+ghost use Rattle.nccloud.specs.Words.{Asks, RefusesWords};
+
+use nc_name::{Name, NameFault};
+
+/// What the words ask for.
+#[derive(Clone, Copy, Debug)]
+pub enum Command {
+    /// `put NAME`: the input becomes this file.
+    Put(Name),
+}
+
+/// Why the words ask for nothing.
+#[derive(Clone, Copy, Debug)]
+pub enum WordFault {
+    /// They aren't one of the commands with exactly its arguments.
+    Usage,
+    /// They are, but the name isn't one.
+    Name(NameFault),
+}
+
+/// Reads the words of a run: one command with exactly its arguments.
+pub fn read_words(words: &[String]) -> Result<Command, WordFault>
+    ensures command { IfOk result (Asks (map string_bytes words.now)) }
+    ensures fault { IfErr result (RefusesWords (map string_bytes words.now)) }
+{
+    match two_words(words) {
+        Some((command, text)) => {
+            if command == "put" {
+                match Name::read(text) {
+                    Ok(name) => Ok(Command::Put(name)),
+                    Err(fault) => Err(WordFault::Name(fault)),
+                }
+            } else {
+                Err(WordFault::Usage)
+            }
+        }
+        None => Err(WordFault::Usage),
+    }
+}
+
+/// The words, where there are two.
+fn two_words(words: &[String]) -> Option<(&str, &str)>
+    ensures some { IfSome result (λ pair. map string_bytes words.now ≡ pair.0.now ∷ pair.1.now ∷ []) }
+    ensures none { IfNone result ((first second : List ℕ) → map string_bytes words.now ≢ first ∷ second ∷ []) }
+{
+    match words {
+        [first, second] => Some((first.as_str(), second.as_str())),
+        _ => None,
+    }
+}
