@@ -62,3 +62,26 @@ pub fn u64_at(bytes: &[u8], at: usize) -> u64
     let b = part_of(bytes, at, 8);
     u64::from_be_bytes([b[0], b[1], b[2], b[3], b[4], b[5], b[6], b[7]])
 }
+
+#[cfg(test)]
+mod tests {
+    use super::*;
+
+    #[test]
+    fn parts_are_compared(rt: HostRuntime) {
+        assert!(rt; is_same(part_of(b"abcdef", 2, 3), b"cde"));
+        assert!(rt; !is_same(part_of(b"abcdef", 2, 3), b"cdf"));
+        assert!(rt; is_same(part_of(b"abc", 3, 0), b""));
+    }
+
+    #[test]
+    fn numbers_stand_high_byte_first(rt: HostRuntime) {
+        assert_eq!(rt; u16_bytes(0x0102), [1, 2]);
+        assert_eq!(rt; u64_bytes(0x0102_0304_0506_0708), [1, 2, 3, 4, 5, 6, 7, 8]);
+        assert_eq!(rt; u16_at(&[9, 1, 2], 1), 0x0102);
+        assert_eq!(rt;
+            u64_at(&[9, 1, 2, 3, 4, 5, 6, 7, 8], 1),
+            0x0102_0304_0506_0708
+        );
+    }
+}

@@ -1,6 +1,7 @@
 -- The entries of rounds.
-use Rattle.std.specs.Prelude.{ℕ, ◌≡◌, ◌<◌, ◌≤◌, Bool, true, false, Option, None, Some, List, length, map}
+use Rattle.std.specs.Prelude.{ℕ, ◌≡◌, ◌<◌, ◌≤◌, Bool, true, false, Option, None, Some, List, [], ◌∷◌, length, map, ◌+◌, ◌-◌, ◌^◌, ◌&&◌, min, max, nat_eq, if◌then◌else◌}
 use Rattle.nc_name.specs.declared.key.Key.{Key}
+use Rattle.nc_name.specs.declared.key.Key.TheVariants.{Meta, Chunk}
 use Rattle.nc_cloud.specs.declared.fleet.Ask.{Ask}
 use Rattle.nc_cloud.specs.declared.fleet.Job.{Job}
 use Rattle.nc_cloud.specs.declared.fleet.Done.{Done}
@@ -42,3 +43,38 @@ Shows Waiting most held = ⊥
 
 abbrev pub Answers : Ask → Option (List ℕ) → Type 0
 Answers a held = Shows a.answer a.most held
+
+-- ---- counts
+
+-- how many pass a test
+abbrev pub tally : {X : Type 0} → (X → Bool) → List X → ℕ
+tally p [] = 0
+tally p (x ∷ xs) = (if p x then 1 else 0) + tally p xs
+
+abbrev pub is_failed : Answer → Bool
+is_failed Failed = true
+is_failed (Bytes bytes) = false
+is_failed Absent = false
+is_failed Long = false
+is_failed Memory = false
+is_failed Waiting = false
+
+abbrev pub is_bytes : Answer → Bool
+is_bytes (Bytes bytes) = true
+is_bytes Absent = false
+is_bytes Long = false
+is_bytes Failed = false
+is_bytes Memory = false
+is_bytes Waiting = false
+
+abbrev pub is_chunk : Key → Bool
+is_chunk (Meta name slot) = false
+is_chunk (Chunk name slot row) = true
+
+-- how many chunks of a cloud a round gave
+abbrev pub chunks_got : ℕ → List Ask → ℕ
+chunks_got c asks = tally (λ a. nat_eq a.cloud c && (is_chunk a.key && is_bytes a.answer)) asks
+
+-- a count of 64 bits after so many more, which stays at its end
+abbrev pub got_count : ℕ → ℕ → ℕ
+got_count before more = max before (min (before + more) (2 ^ 64 - 1))

@@ -1,7 +1,7 @@
 ghost use Rattle.std.specs.Prelude.{◌≡◌, ◌≢◌, ◌<◌, ℕ, All, AllPairs, map};
 ghost use Rattle.nc_frame.specs.Frames.{Whole};
 ghost use Rattle.nc_cloud.specs.Contents.{Contents, Rose, Leaves, Grows};
-ghost use Rattle.nc_cloud.specs.Fleet.{asked, places, touches, Answers};
+ghost use Rattle.nc_cloud.specs.Fleet.{asked, chunks_got, got_count, places, touches, Answers};
 ghost use Rattle.nc_cloud.specs.declared.fleet.Answer.TheVariants.{Waiting as Unanswered, Failed as NoAnswer};
 ghost use Rattle.nc_cloud.specs.declared.fleet.Done.TheVariants.{Waiting, Failed};
 
@@ -75,6 +75,9 @@ pub trait Fleet {
     /// These counts rise at entries that failed, and at no others.
     ghost counts_exactly: { Type 0 } = { ⊥ };
 
+    /// How many gets of chunks of a cloud have given bytes.
+    ghost chunk_gets: { Self → ℕ → ℕ };
+
     /// The number of clouds, which never changes.
     fn width(&self) -> usize
         ensures { result ≡ clouds self.now };
@@ -91,7 +94,8 @@ pub trait Fleet {
         ensures exact { counts_exactly → (c : ℕ) → All (λ a. a.cloud ≡ c → a.answer ≢ NoAnswer) asks.new → faults self.new c ≡ faults self.old c }
         ensures clouds { clouds self.new ≡ clouds self.old }
         ensures held { held self.new ≡ held self.old }
-        ensures grows { Grows (faults self.old) (faults self.new) };
+        ensures grows { Grows (faults self.old) (faults self.new) }
+        ensures gets { (c : ℕ) → chunk_gets self.new c ≡ got_count (chunk_gets self.old c) (chunks_got c asks.new) };
 
     /// Writes an object on each of some clouds. How each ended stands in the entries afterwards.
     fn put_round(&mut self, jobs: &mut [Job])
@@ -105,5 +109,6 @@ pub trait Fleet {
         ensures failed { All (λ j. j.done ≡ Failed → Rose (faults self.old j.cloud) (faults self.new j.cloud)) jobs.new }
         ensures exact { counts_exactly → (c : ℕ) → All (λ j. j.cloud ≡ c → j.done ≢ Failed) jobs.new → faults self.new c ≡ faults self.old c }
         ensures clouds { clouds self.new ≡ clouds self.old }
-        ensures grows { Grows (faults self.old) (faults self.new) };
+        ensures grows { Grows (faults self.old) (faults self.new) }
+        ensures gets { chunk_gets self.new ≡ chunk_gets self.old };
 }

@@ -59,6 +59,8 @@ pub fn scaled(rows: &[[u8; 32]; 16], n: usize, c: usize, t: u8) -> [[u8; 32]; 16
     requires bytes { AreRows n rows.now }
     ensures rows { AreRows n result }
     ensures product { IsScaled n c t rows.now result }
+
+    // A caller that took the factor out of an `Option` doesn't see that it is a byte.
     ensures byte { t < 256 }
 {
     let mut normal = *rows;

@@ -1,11 +1,23 @@
 ghost use Rattle.std.specs.Prelude.{◌≡◌, ℕ, List, IfOk};
 
-use std::alloc::Global;
+use std::alloc::{AllocError, AllocFailed, Global};
 use std::marker::Model;
 
 /// No memory was found. Where a call may answer it, it is the one answer that no clause ties to a cause.
 #[derive(Clone, Copy, Debug, PartialEq, Eq)]
 pub struct Memory;
+
+impl From<AllocError> for Memory {
+    fn from(_: AllocError) -> Self {
+        Memory
+    }
+}
+
+impl<T: Drop> From<AllocFailed<T>> for Memory {
+    fn from(_: AllocFailed<T>) -> Self {
+        Memory
+    }
+}
 
 /// Bytes on the heap, seen as their list.
 #[derive(Debug, Drop)]
@@ -24,10 +36,8 @@ impl Blob {
     pub fn from_slice(alloc: Global, bytes: &[u8]) -> Result<Blob, Memory>
         ensures { IfOk result (λ blob. blob ≡ bytes.now) }
     {
-        match Vec::from_slice(alloc, bytes) {
-            Ok(bytes) => Ok(Blob { bytes }),
-            Err(_) => Err(Memory),
-        }
+        let bytes = Vec::from_slice(alloc, bytes)?;
+        Ok(Blob { bytes })
     }
 
     /// The same bytes. It takes no memory.

@@ -4,7 +4,13 @@
 mod blob;
 mod key;
 mod name;
+mod reading;
+#[cfg(test)]
+mod tests;
+mod text;
 
 pub use blob::{Blob, Memory};
 pub use key::Key;
-pub use name::Name;
+pub use name::{Name, NameFault};
+pub use reading::read_key;
+pub use text::KeyText;

@@ -1,0 +1,13 @@
+-- Rounds with one entry for each cloud.
+use Rattle.std.specs.Prelude.{ℕ, zero, suc, Option, None, Some, List, [], ◌∷◌}
+use Rattle.nc_frame.specs.Frames.{Whole}
+
+-- f a, f (a + 1), .., k of them: one for each cloud from a on
+abbrev pub row : {X : Type 0} → (ℕ → X) → ℕ → ℕ → List X
+row f a zero = []
+row f a (suc k) = f a ∷ row f (suc a) k
+
+-- the bytes that an object is to become are a whole frame
+abbrev pub IsWhole : Option (List ℕ) → Type 0
+IsWhole None = ⊥
+IsWhole (Some bytes) = Whole bytes

@@ -1,0 +1,143 @@
+ghost use Rattle.std.specs.Prelude.{◌≡◌, ◌≤◌, ◌++◌, ◌∷◌, [], ℕ, Some, None, IfOk, OnOk, OnErr, IsErrOf, is_ok};
+ghost use Rattle.nc_frame.specs.Frames.{Whole};
+ghost use Rattle.nc_cloud.specs.Contents.{Store, Rose, Settles, ChangesAt};
+ghost use Rattle.nc_cloud.specs.Cloud.{GetShows, got_after, Lists};
+ghost use Rattle.nc_cloud.specs.declared.cloud.CloudError.TheVariants.{Failed, Memory as NoMemory};
+
+use nc_name::{Blob, Key, Memory};
+use std::alloc::Global;
+use std::marker::Model;
+
+/// Why a call on a cloud wasn't done.
+#[derive(Clone, Copy, Debug, PartialEq, Eq)]
+pub enum CloudError {
+    /// The cloud failed. Its count rose.
+    Failed,
+    /// No memory was found.
+    Memory,
+}
+
+impl From<Memory> for CloudError {
+    ghost from_gives = { λ _ e. e ≡ NoMemory };
+
+    fn from(_: Memory) -> Self {
+        CloudError::Memory
+    }
+}
+
+/// What a cloud has of an object.
+#[derive(Debug, Drop)]
+pub enum Got {
+    /// The object.
+    Bytes(Blob),
+    /// There is none.
+    Absent,
+    /// There is one, longer than was asked for.
+    Long,
+}
+
+/// Keys, seen as their list.
+#[derive(Debug, Drop)]
+pub struct KeyList {
+    keys: Vec<Key>,
+}
+
+impl Model for KeyList {
+    ghost use Rattle.std.specs.Prelude.{List};
+    ghost use Rattle.nc_name.specs.declared.key.Key.{Key};
+
+    ghost Value = { List Key };
+
+    ghost view = { λ k. k.keys.items };
+}
+
+impl KeyList {
+    pub fn new(alloc: Global) -> KeyList
+        ensures { result ≡ [] }
+    {
+        KeyList {
+            keys: Vec::new(alloc),
+        }
+    }
+
+    /// A key more. At `Memory` the list is as it was.
+    pub fn push(&mut self, key: Key) -> Result<(), Memory>
+        ensures ok { OnOk result (self.new ≡ self.old ++ key ∷ []) }
+        ensures err { OnErr result (self.new ≡ self.old) }
+    {
+        match self.keys.push(key) {
+            Ok(()) => Ok(()),
+            Err(_) => Err(Memory),
+        }
+    }
+
+    pub fn items(&self) -> &[Key]
+        ensures { result.now ≡ self.now }
+    {
+        self.keys.as_slice()
+    }
+}
+
+/// One cloud. A call that fails raises one of its two counts.
+pub trait Cloud {
+    /// The cloud says what it holds.
+    ghost tells: { Type 0 } = { ⊥ };
+
+    /// What it holds under each key, where it tells.
+    ghost held: { Self → Store };
+
+    /// How many gets and puts have failed.
+    ghost faults: { Self → ℕ };
+
+    /// How many deletes and lists have failed.
+    ghost slips: { Self → ℕ };
+
+    /// These two counts rise at calls that failed, and at no others.
+    ghost counts_exactly: { Type 0 } = { ⊥ };
+
+    /// How many gets of chunks have given bytes.
+    ghost chunk_gets: { Self → ℕ };
+
+    /// Its deletes never answer `Memory`.
+    ghost sure_deletes: { Type 0 } = { ⊥ };
+
+    /// Asks for at most `most` bytes of an object.
+    fn get(&mut self, key: &Key, most: u64) -> Result<Got, CloudError>
+        ensures told { tells → GetShows result most (held self.old key.now) }
+        ensures held { held self.new ≡ held self.old }
+        ensures failed { IsErrOf result Failed → Rose (faults self.old) (faults self.new) }
+        ensures exact { counts_exactly → (IsErrOf result Failed → ⊥) → faults self.new ≡ faults self.old }
+        ensures later { faults self.old ≤ faults self.new }
+        ensures slips { slips self.new ≡ slips self.old }
+        ensures gets { chunk_gets self.new ≡ got_after key.now result (chunk_gets self.old) };
+
+    /// Writes an object: a whole frame. Where it isn't Ok, the object may be old, new, gone or torn.
+    fn put(&mut self, key: &Key, bytes: &[u8]) -> Result<(), CloudError>
+        requires { Whole bytes.now }
+        ensures told { tells → ChangesAt key.now (Settles (is_ok result) (Some bytes.now)) (held self.old) (held self.new) }
+        ensures failed { IsErrOf result Failed → Rose (faults self.old) (faults self.new) }
+        ensures exact { counts_exactly → (IsErrOf result Failed → ⊥) → faults self.new ≡ faults self.old }
+        ensures later { faults self.old ≤ faults self.new }
+        ensures slips { slips self.new ≡ slips self.old }
+        ensures gets { chunk_gets self.new ≡ chunk_gets self.old };
+
+    /// Deletes an object, which need not be there. Where it isn't Ok, the object may be old, gone or torn.
+    fn delete(&mut self, key: &Key) -> Result<(), CloudError>
+        ensures told { tells → ChangesAt key.now (Settles (is_ok result) None) (held self.old) (held self.new) }
+        ensures failed { IsErrOf result Failed → Rose (slips self.old) (slips self.new) }
+        ensures exact { counts_exactly → (IsErrOf result Failed → ⊥) → slips self.new ≡ slips self.old }
+        ensures later { slips self.old ≤ slips self.new }
+        ensures faults { faults self.new ≡ faults self.old }
+        ensures gets { chunk_gets self.new ≡ chunk_gets self.old }
+        ensures sure { sure_deletes → IsErrOf result NoMemory → ⊥ };
+
+    /// The keys of all objects, sorted by their texts.
+    fn list(&mut self) -> Result<KeyList, CloudError>
+        ensures told { tells → IfOk result (Lists (held self.old)) }
+        ensures held { held self.new ≡ held self.old }
+        ensures failed { IsErrOf result Failed → Rose (slips self.old) (slips self.new) }
+        ensures exact { counts_exactly → (IsErrOf result Failed → ⊥) → slips self.new ≡ slips self.old }
+        ensures later { slips self.old ≤ slips self.new }
+        ensures faults { faults self.new ≡ faults self.old }
+        ensures gets { chunk_gets self.new ≡ chunk_gets self.old };
+}

@@ -1,0 +1,10 @@
+//! The metadata of a file, and the payloads that it is stored as.
+#![tactic(auto)]
+
+mod gone;
+mod live;
+mod meta;
+mod plans;
+mod tables;
+
+pub use meta::{Live, Meta};

@@ -1,0 +1,5 @@
+pub mod Mixes
+pub mod Missing
+pub mod Solving
+pub mod Squares
+pub mod FileBack

@@ -1,0 +1,150 @@
+ghost use Rattle.std.specs.Prelude.{◌≡◌, ℕ, ◌+◌, ◌*◌, ◌<◌, ◌≤◌, List, length, replicate, take, IfOk};
+ghost use Rattle.std.specs.Borrow.{Bor};
+ghost use Rattle.std.specs.List.{All, AllPairs};
+ghost use Rattle.nc_bytes.specs.Bytes.{AreBytes};
+ghost use Rattle.nc_gf256.specs.Width.{native_count};
+ghost use Rattle.nc_native.specs.Native.{AllLong, chunk_size};
+ghost use Rattle.nc_code.specs.Codes.{IsMds};
+ghost use Rattle.nc_mix.specs.Mixing.{lent};
+ghost use Rattle.nc_mix.specs.Decoding.{HoldsRows, Inverts, IsBefore, IsLong, IsPieceOf, chunks_in, solved};
+
+use crate::adding::{add_all, zeros};
+use crate::gates::Gate;
+use crate::pieces::Piece;
+use nc_code::Code;
+use nc_matrix::{Outcome, Square, invert};
+use nc_name::{Blob, Memory};
+use nc_native::chunk_size;
+use std::alloc::Global;
+use std::thread::Threads;
+
+/// The file of `len` bytes whose combinations the pieces are. There are `width - 2` pieces, of distinct clouds in ascending
+/// order, and each chunk has the size of a chunk of such a file. Workers and gate change nothing in the answer.
+pub fn decode<R: Threads + Sync, G: Gate + Sync>(
+    rt: &R,
+    alloc: Global,
+    pieces: &[Piece],
+    code: &Code,
+    len: u64,
+    workers: u8,
+    gate: &G,
+) -> Result<Blob, Memory>
+    requires mds { IsMds code.now }
+    requires count { length pieces.now + 2 ≡ code.now.width }
+    requires ascending { AllPairs IsBefore pieces.now }
+    requires in_width { All (λ x. x.cloud < code.now.width) pieces.now }
+    requires long { All (IsLong (chunk_size len code.now.width)) pieces.now }
+    requires some_worker { 1 ≤ workers }
+    requires few_workers { workers ≤ 16 }
+    ensures length { IfOk result (λ file. length file ≡ len) }
+    ensures file { IfOk result (λ file. (v : List ℕ) → AreBytes v → length v ≡ len → All (IsPieceOf code.now v) pieces.now → file ≡ v) }
+{
+    let size = chunk_size(len, code.width()) as usize;
+    let inverse = inverse_of(pieces, code);
+    let rows = first_rows(&inverse.cells, inverse.size as usize);
+    decode_with(rt, alloc, pieces, rows, size, len as usize, workers, gate)
+}
+
+/// The inverse of the square of the pieces' rows, which the code being MDS promises.
+fn inverse_of(pieces: &[Piece], code: &Code) -> Square
+    requires mds { IsMds code.now }
+    requires count { length pieces.now + 2 ≡ code.now.width }
+    requires ascending { AllPairs IsBefore pieces.now }
+    requires in_width { All (λ x. x.cloud < code.now.width) pieces.now }
+    ensures size { result.size ≡ native_count code.now.width }
+    ensures inverse { Inverts code.now pieces.now result.cells }
+{
+    match invert(&square_of(pieces, code)) {
+        Outcome::Inverse(inverse) => inverse,
+        Outcome::Kernel(_) => unreachable!(),
+    }
+}
+
+/// The first `count` rows.
+pub fn first_rows(cells: &[[u8; 16]; 16], count: usize) -> &[[u8; 16]]
+    requires { count ≤ 16 }
+    ensures count { length result.now ≡ count }
+    ensures rows { result.now ≡ take count cells.now }
+{
+    &cells[..count]
+}
+
+/// The square of the pieces' rows, two for each piece in order.
+pub fn square_of(pieces: &[Piece], code: &Code) -> Square
+    requires count { length pieces.now + 2 ≡ code.now.width }
+    requires in_width { All (λ x. x.cloud < code.now.width) pieces.now }
+    ensures size { result.size ≡ native_count code.now.width }
+    ensures rows { HoldsRows code.now pieces.now result.cells }
+{
+    let width = code.width();
+    let mut cells = [[0; 16]; 16];
+    for p in 0..pieces.len() {
+        let cloud = pieces[p].cloud;
+        cells[2 * p] = code.row(cloud, 0);
+        cells[2 * p + 1] = code.row(cloud, 1);
+    }
+    Square {
+        size: 2 * (width - 2),
+        cells,
+    }
+}
+
+/// The first `len` bytes of what the rows make of the pieces' chunks.
+pub fn decode_with<R: Threads + Sync, G: Gate + Sync>(
+    rt: &R,
+    alloc: Global,
+    pieces: &[Piece],
+    rows: &[[u8; 16]],
+    size: usize,
+    len: usize,
+    workers: u8,
+    gate: &G,
+) -> Result<Blob, Memory>
+    requires count { length (chunks_in pieces.now) ≤ 16 }
+    requires long { AllLong size (chunks_in pieces.now) }
+    ensures { IfOk result (λ file. file ≡ take len (solved size (chunks_in pieces.now) rows.now)) }
+{
+    let sources = lend_pieces(alloc, pieces)?;
+    let Some(total) = rows.len().checked_mul(size) else {
+        return Err(Memory);
+    };
+    let mut file = zeros(alloc, total)?;
+    solve_into(rt, &mut file, &sources, rows, size, workers, gate);
+    file.truncate(len);
+    Ok(Blob::from_vec(file))
+}
+
+/// Writes what each row makes of the sources into its part of `dst`, which holds zeros.
+fn solve_into<R: Threads + Sync, G: Gate + Sync>(
+    rt: &R,
+    dst: &mut [u8],
+    sources: &[&[u8]],
+    rows: &[[u8; 16]],
+    size: usize,
+    workers: u8,
+    gate: &G,
+)
+    requires count { length (lent sources.now) ≤ 16 }
+    requires long { AllLong size (lent sources.now) }
+    requires zeros { dst.old ≡ replicate (length rows.now * size) 0 }
+    ensures { dst.new ≡ solved size (lent sources.now) rows.now }
+{
+    if let Some((row, rest)) = rows.split_first() {
+        let (part, after) = dst.split_at_mut(size);
+        add_all(rt, part, sources, row, workers, gate);
+        solve_into(rt, after, sources, rest, size, workers, gate);
+    }
+}
+
+/// The bytes of each chunk.
+fn lend_pieces(alloc: Global, pieces: &[Piece]) -> Result<Vec<&[u8]>, Memory>
+    ensures { IfOk result (λ v. lent v.items ≡ chunks_in pieces.now) }
+{
+    let mut list = Vec::new(alloc);
+    for piece in pieces {
+        if list.push(piece.zero.bytes()).is_err() || list.push(piece.one.bytes()).is_err() {
+            return Err(Memory);
+        }
+    }
+    Ok(list)
+}

@@ -1,0 +1,56 @@
+ghost use Rattle.std.specs.Prelude.{◌≡◌, ℕ, ◌*◌, ◌<◌, ◌≤◌, List, length, IfOk};
+ghost use Rattle.std.specs.Borrow.{Bor};
+ghost use Rattle.nc_gf256.specs.Width.{native_count};
+ghost use Rattle.nc_native.specs.Native.{natives_of, native_len, AllLong};
+ghost use Rattle.nc_mix.specs.Mixing.{AreChunksOf, chunks_of, lent};
+
+use crate::adding::mix;
+use crate::gates::Gate;
+use crate::list::Chunks;
+use nc_code::Code;
+use nc_name::{Blob, Memory};
+use nc_native::Natives;
+use std::alloc::Global;
+use std::thread::Threads;
+
+/// The chunks of all clouds: chunk `2c+r` is the combination of the natives by row `r` of cloud `c`. The natives are the
+/// `2 * (width - 2)` of the code's width, all of one length. Workers and gate change nothing in the answer.
+pub fn encode<R: Threads + Sync, G: Gate + Sync>(
+    rt: &R,
+    alloc: Global,
+    natives: &Natives,
+    code: &Code,
+    workers: u8,
+    gate: &G,
+) -> Result<Chunks, Memory>
+    requires count { length natives.now ≡ native_count code.now.width }
+    requires long { AllLong (native_len natives.now) natives.now }
+    requires some_worker { 1 ≤ workers }
+    requires few_workers { workers ≤ 16 }
+    ensures chunks { IfOk result (λ chunks. chunks ≡ chunks_of (2 * code.now.width) code.now.rows natives.now) }
+    ensures count { IfOk result (λ chunks. length chunks ≡ 2 * code.now.width) }
+    ensures of_file { IfOk result (λ chunks. (v : List ℕ) → natives.now ≡ natives_of v code.now.width → AreChunksOf code.now v chunks) }
+{
+    let width = code.width();
+    let sources = lend(alloc, natives.items())?;
+    let size = sources[0].len();
+    let mut chunks = Chunks::new(alloc);
+    for k in 0..2 * width {
+        let row = code.row(k / 2, k % 2);
+        chunks.push(mix(rt, alloc, &sources, &row, size, workers, gate)?)?;
+    }
+    Ok(chunks)
+}
+
+/// The bytes of each blob.
+fn lend(alloc: Global, blobs: &[Blob]) -> Result<Vec<&[u8]>, Memory>
+    ensures { IfOk result (λ v. lent v.items ≡ blobs.now) }
+{
+    let mut list = Vec::new(alloc);
+    for blob in blobs {
+        if list.push(blob.bytes()).is_err() {
+            return Err(Memory);
+        }
+    }
+    Ok(list)
+}

@@ -1,0 +1,49 @@
+ghost use Rattle.std.specs.Prelude.{◌≡◌, ℕ, ◌-◌, ◌≤◌, List, ◌++◌, length, replicate, IfOk};
+ghost use Rattle.nc_gf256.specs.Width.{native_count};
+ghost use Rattle.nc_native.specs.Native.{chunk_size, natives_of, native_len, AllLong};
+
+use crate::list::Natives;
+use nc_name::{Blob, Memory};
+use std::alloc::Global;
+
+/// The bytes of each chunk of a file of `len` bytes: a native is one part of `2 * (width - 2)`, rounded up.
+pub fn chunk_size(len: u64, width: u8) -> u64
+    requires wide { 4 ≤ width }
+    requires narrow { width ≤ 10 }
+    ensures { result ≡ chunk_size len width }
+{
+    len.div_ceil(2 * (u64::from(width) - 2))
+}
+
+/// Cuts a file into its `2 * (width - 2)` natives, all of one length. Zeros fill up the last ones.
+pub fn cut(alloc: Global, bytes: &[u8], width: u8) -> Result<Natives, Memory>
+    requires wide { 4 ≤ width }
+    requires narrow { width ≤ 10 }
+    ensures value { IfOk result (λ natives. natives ≡ natives_of bytes.now width) }
+    ensures count { IfOk result (λ natives. length natives ≡ native_count width) }
+    ensures long { IfOk result (λ natives. AllLong (native_len natives) natives) }
+{
+    let size = chunk_size(bytes.len() as u64, width) as usize;
+    let mut natives = Natives::new(alloc);
+    let mut rest = bytes;
+    for _i in 0..2 * (usize::from(width) - 2) {
+        let (front, back) = rest.split_at(size.min(rest.len()));
+        natives.push(padded(alloc, front, size)?)?;
+        rest = back;
+    }
+    Ok(natives)
+}
+
+/// The bytes, and zeros up to `size` bytes.
+fn padded(alloc: Global, front: &[u8], size: usize) -> Result<Blob, Memory>
+    requires { length front.now ≤ size }
+    ensures { IfOk result (λ blob. blob ≡ front.now ++ replicate (size - length front.now) 0) }
+{
+    let Ok(mut bytes) = Vec::with_capacity(alloc, size) else {
+        return Err(Memory);
+    };
+    if bytes.extend_from_slice(front).is_err() || bytes.resize(size, 0).is_err() {
+        return Err(Memory);
+    }
+    Ok(Blob::from_vec(bytes))
+}

@@ -1,0 +1,45 @@
+ghost use Rattle.std.specs.Prelude.{◌≡◌, ℕ, List, [], ◌∷◌, ◌++◌, OnOk, OnErr};
+
+use nc_name::{Blob, Memory};
+use std::alloc::Global;
+use std::marker::Model;
+
+/// Native chunks in order, seen as the list of their bytes.
+#[derive(Debug, Drop)]
+pub struct Natives {
+    list: Vec<Blob>,
+}
+
+impl Model for Natives {
+    ghost Value = { List (List ℕ) };
+
+    ghost view = { λ n. n.list.items };
+}
+
+impl Natives {
+    /// No chunks. It takes no memory.
+    pub fn new(alloc: Global) -> Natives
+        ensures { result ≡ [] }
+    {
+        Natives {
+            list: Vec::new(alloc),
+        }
+    }
+
+    /// Puts a chunk at the end.
+    pub fn push(&mut self, chunk: Blob) -> Result<(), Memory>
+        ensures ok { OnOk result (self.new ≡ self.old ++ (chunk ∷ [])) }
+        ensures err { OnErr result (self.new ≡ self.old) }
+    {
+        match self.list.push(chunk) {
+            Ok(()) => Ok(()),
+            Err(_) => Err(Memory),
+        }
+    }
+
+    pub fn items(&self) -> &[Blob]
+        ensures { result.now ≡ self.now }
+    {
+        self.list.as_slice()
+    }
+}
