@@ -68,15 +68,12 @@ impl Witnesses {
         let _plans = &self.plans;
     }
 
-    /// The plan for the loss of cloud `lost`. The contract also hands on what the plan's type keeps.
+    /// The plan for the loss of cloud `lost`.
     pub fn plan(&self, lost: u8) -> &Plan
         requires { lost < 10 }
-        ensures plan { result.now ≡ plan_of self.now lost }
-        ensures kept { IsPlan result.now }
+        ensures { result.now ≡ plan_of self.now lost }
     {
-        let plan = &self.plans[lost as usize];
-        plan.kept();
-        plan
+        &self.plans[lost as usize]
     }
 }
 

@@ -7,11 +7,11 @@ use Rattle.nc_nextloss.proofs.good.confirm.Goals as goal
 
 pub returns-then-not-is_plan_for-clause-none : goal.returns-then-not-is_plan_for-clause-none
 returns-then-not-is_plan_for-clause-none c = λ _ good.
-    false≢true (c.if-not-is_plan_for.ensures.1 (subst (λ (p : PlanParts). IsPlanFor c.args.code.now c.loop-lost.lost p) (sym c.plan.ensures.plan) (plan_for c.args.code.now c.args.witnesses.now c.loop-lost.lost good)))
+    false≢true (c.if-not-is_plan_for.ensures.1 (subst (λ (p : PlanParts). IsPlanFor c.args.code.now c.loop-lost.lost p) (sym c.plan.ensures) (plan_for c.args.code.now c.args.witnesses.now c.loop-lost.lost good)))
 
 pub loop-lost-preserved : goal.loop-lost-preserved
 loop-lost-preserved c =
-    one_more c.args.code.now c.args.witnesses.now c.loop-lost.lost c.plan.result.now c.loop-lost.invariant c.plan.ensures.plan (c.is_plan_for.ensures.0 c.if-not-is_plan_for.false)
+    one_more c.args.code.now c.args.witnesses.now c.loop-lost.lost c.plan.result.now c.loop-lost.invariant c.plan.ensures (c.is_plan_for.ensures.0 c.if-not-is_plan_for.false)
 
 pub invariant_of-result : goal.invariant_of-result
 invariant_of-result c =
