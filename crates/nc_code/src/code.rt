@@ -65,7 +65,9 @@ pub fn same_code(a: &Code, b: &Code) -> bool
     a.width == b.width && a.rows == b.rows
 }
 
-/// Tells that an array of rows has twenty rows of sixteen bytes.
+// The functions below compute nothing: they tell what the types of arrays keep, which a proof knows of what is read.
+
+/// An array of rows has twenty rows of sixteen bytes.
 fn told_rows(rows: &[[u8; 16]; 20])
     ensures { IsTable 20 16 rows.now }
 {

@@ -25,12 +25,6 @@ impl Model for Plan {
     ghost inverse = { λ p. record { choice = p.choice; coefs = p.coefs } };
 }
 
-/// A plan for each cloud that may be lost next.
-#[derive(Clone, Copy, Debug)]
-pub struct Witnesses {
-    pub plans: [Plan; 10],
-}
-
 impl Plan {
     /// The plan with all choices and factors 0: it stands where no plan is stored.
     pub fn none() -> Plan
@@ -60,6 +54,12 @@ impl Plan {
     }
 }
 
+/// A plan for each cloud that may be lost next.
+#[derive(Clone, Copy, Debug)]
+pub struct Witnesses {
+    pub plans: [Plan; 10],
+}
+
 impl Witnesses {
     /// Tells how many plans there are.
     pub fn kept(&self)
@@ -77,7 +77,9 @@ impl Witnesses {
     }
 }
 
-/// Tells that an array of factors has two rows of ten bytes.
+// The functions below compute nothing: they tell what the types of arrays keep, which a proof knows of what is read.
+
+/// An array of factors has two rows of ten bytes.
 fn told_coefs(coefs: &[[u8; 10]; 2])
     ensures { IsTable 2 10 coefs.now }
 {

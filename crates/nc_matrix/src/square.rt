@@ -8,8 +8,8 @@ ghost use Rattle.nc_matrix.specs.Cells.{entry};
 pub struct Square {
     pub size: u8,
     pub cells: [[u8; 16]; 16],
-    ghost at_least_one: { 1 ≤ size },
-    ghost at_most_sixteen: { size ≤ 16 },
-    ghost zero_below: { (i k : ℕ) → size ≤ i → entry cells i k ≡ 0 },
-    ghost zero_right: { (i k : ℕ) → size ≤ k → entry cells i k ≡ 0 },
+    pub ghost at_least_one: { 1 ≤ size },
+    pub ghost at_most_sixteen: { size ≤ 16 },
+    pub ghost zero_below: { (i k : ℕ) → size ≤ i → entry cells i k ≡ 0 },
+    pub ghost zero_right: { (i k : ℕ) → size ≤ k → entry cells i k ≡ 0 },
 }

@@ -1,5 +1,7 @@
 ghost use Rattle.std.specs.Prelude.{◌<◌, ◌≤◌};
-ghost use Rattle.nc_mds.specs.Verdicts.{IsFails};
+ghost use Rattle.nc_code.specs.Codes.{repaired};
+ghost use Rattle.nc_code.specs.Striped.{striped_code};
+ghost use Rattle.nc_mds.specs.Verdicts.{IsVerdict, IsFails};
 ghost use Rattle.nc_nextloss.specs.Laws.{StripedHasNoWitness};
 
 use crate::witness::check_witness;
@@ -16,7 +18,8 @@ pub fn check_striped_repair(width: u8, lost: u8, plan: &Plan) -> Verdict
     requires wide { 4 ≤ width }
     requires narrow { width ≤ 10 }
     requires lost { lost < width }
-    ensures { IsFails result }
+    ensures verdict { IsVerdict (repaired (striped_code width) lost plan.now) result }
+    ensures fails { IsFails result }
 {
     plan.kept();
     check_witness(&striped(width), lost, plan)
