@@ -61,7 +61,7 @@ some_tail : (n : ℕ) (w : Option Witnesses) → 0 < length (witness_bytes n w)
 some_tail n None = omega arith
 some_tail n (Some w) = omega arith
 
-length-stored_row : (n : ℕ) (m : Live) → n ≤ 10 → IsLive n m → (i : ℕ) → i < 2 * n → length (stored_row n m i) ≡ native_count n
+pub length-stored_row : (n : ℕ) (m : Live) → n ≤ 10 → IsLive n m → (i : ℕ) → i < 2 * n → length (stored_row n m i) ≡ native_count n
 length-stored_row n m narrow is i l =
     let long : length (slice_index_or m.code.rows i []) ≡ 16 = is.code.shape.widths i (omega arith) in
     length-take-le (native_count n) (slice_index_or m.code.rows i []) (omega arith)

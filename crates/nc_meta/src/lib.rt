@@ -2,6 +2,7 @@
 #![tactic(auto)]
 
 mod gone;
+pub mod laws;
 mod live;
 mod meta;
 mod plans;
