@@ -81,7 +81,13 @@ live_shape n payload m narrow s =
     let end : length (drop (tail_at n) payload) ≡ length (witness_bytes n m.witnesses) = ap length six.rest in
     record {
       long = omega (arith, length-drop (tail_at n) payload, some_tail n m.witnesses, end);
-      head = one.here; generation = two.here; len = three.here; rows = four.here; slots = five.here; marks = six.here; tail = six.rest;
+      head = one.here;
+      generation = two.here;
+      len = three.here;
+      rows = four.here;
+      slots = five.here;
+      marks = six.here;
+      tail = six.rest;
     }
 
 pub live_of : (n : ℕ) (payload : List ℕ) (m : Live) → LiveShape n payload m → payload ≡ live_spelling n m

@@ -15,7 +15,7 @@ use Rattle.nc_meta.specs.declared.meta.Live.{Live as LiveMeta}
 use Rattle.nc_meta.specs.declared.meta.Meta.{Meta}
 use Rattle.nc_meta.specs.declared.meta.Meta.TheVariants.{Live, Gone}
 use Rattle.nc_meta.specs.Parts.{each, of_survivors}
-use Rattle.nc_meta.specs.Metas.{AreWitnesses, IsLive, MetasFit, Spells, SpellsLive, gone_spelling, live_spelling, plan_bytes, stored_row, witness_bytes}
+use Rattle.nc_meta.specs.Metas.{AreWitnesses, IsLive, IsMeta, MetasFit, Spells, SpellsLive, gone_spelling, live_spelling, plan_bytes, stored_row, witness_bytes}
 use Rattle.nc_meta.proofs.Padding.{below_append, below_cons, below_drop, below_take}
 use Rattle.nc_meta.proofs.PlanParts.{length-plans}
 use Rattle.nc_meta.proofs.MetaParts.{gone_shape, live_shape, tail_at}
@@ -90,3 +90,8 @@ metas_fit n wide narrow payload (Live m) s =
     (live_short n payload m narrow s, subst AreBytes (sym s.is_spelling) (live_are_bytes n m s.fits))
 metas_fit n wide narrow payload (Gone g) s =
     (omega (arith, (gone_shape payload g s.is_spelling).total), subst AreBytes (sym s.is_spelling) (gone_are_bytes g))
+
+-- only metas that can be stored have a payload
+pub is_meta : (n : ℕ) (payload : List ℕ) (m : Meta) → Spells n payload m → IsMeta n m
+is_meta n payload (Live m) s = s.fits
+is_meta n payload (Gone g) s = s.fits

@@ -41,12 +41,12 @@ pub same_tables : (count size N : ℕ) (t u : List (List ℕ)) → IsTable 20 N 
     → t ≡ u
 same_tables count size N t u is_t is_u rows zero_t zero_u past_t past_u =
     ext_get_or [] t u (is_t.count ∙ sym is_u.count) (λ i l.
-        let within : i < 20 = omega (arith, is_t.count) in
-        let long = is_t.widths i within ∙ sym (is_u.widths i within) in
-        elim (cases_lt i count) [
-          | inl low ↦ same_padded size (slice_index_or t i []) (slice_index_or u i []) long (rows i low) (zero_t i) (zero_u i)
-          | inr high ↦ same_padded 0 (slice_index_or t i []) (slice_index_or u i []) long refl (λ k past. past_t i k high) (λ k past. past_u i k high)
-        ])
+    let within : i < 20 = omega (arith, is_t.count) in
+    let long = is_t.widths i within ∙ sym (is_u.widths i within) in
+    elim (cases_lt i count) [
+      | inl low ↦ same_padded size (slice_index_or t i []) (slice_index_or u i []) long (rows i low) (zero_t i) (zero_u i)
+      | inr high ↦ same_padded 0 (slice_index_or t i []) (slice_index_or u i []) long refl (λ k past. past_t i k high) (λ k past. past_u i k high)
+    ])
 
 -- past the end of its rows a table has zeros
 pub past_rows : (N : ℕ) (t : List (List ℕ)) → IsTable 20 N t → (i k : ℕ) → N ≤ k → slice_index (slice_index_or t i []) k ≡ 0
@@ -86,22 +86,22 @@ same_survivors n lost xs ys within fits long e x y past_x past_y =
     ext_get_or 0 xs ys long (λ t l. elim (cases_lt t lost) [
       | inl before ↦ sym (get_or-take lost xs t 0 before) ∙ ap (λ zs. slice_index zs t) halves.front ∙ get_or-take lost ys t 0 before
       | inr from ↦ elim (cases_lt lost t) [
-          | inl after ↦ elim (cases_lt t n) [
-              | inl inside ↦
-                  let i = t - (lost + 1) in
-                  let room : t - (lost + 1) < n - (lost + 1) = omega arith in
-                  let at : lost + 1 + (t - (lost + 1)) ≡ t = omega arith in
-                  let here_x = get_or-take (n - (lost + 1)) (drop (lost + 1) xs) (t - (lost + 1)) 0 room ∙ get_or-drop (lost + 1) xs (t - (lost + 1)) 0
-                      ∙ ap (slice_index xs) at in
-                  let here_y = get_or-take (n - (lost + 1)) (drop (lost + 1) ys) (t - (lost + 1)) 0 room ∙ get_or-drop (lost + 1) ys (t - (lost + 1)) 0
-                      ∙ ap (slice_index ys) at in
-                  sym here_x ∙ ap (λ zs. slice_index zs (t - (lost + 1))) halves.rest ∙ here_y
-              | inr outside ↦ past_x t outside ∙ sym (past_y t outside)
-            ]
-          | inr not_after ↦
-              let same : t ≡ lost = omega arith in
-              ap (slice_index xs) same ∙ x ∙ sym (ap (slice_index ys) same ∙ y)
+        | inl after ↦ elim (cases_lt t n) [
+          | inl inside ↦
+              let i = t - (lost + 1) in
+              let room : t - (lost + 1) < n - (lost + 1) = omega arith in
+              let at : lost + 1 + (t - (lost + 1)) ≡ t = omega arith in
+              let here_x = get_or-take (n - (lost + 1)) (drop (lost + 1) xs) (t - (lost + 1)) 0 room ∙ get_or-drop (lost + 1) xs (t - (lost + 1)) 0
+              ∙ ap (slice_index xs) at in
+              let here_y = get_or-take (n - (lost + 1)) (drop (lost + 1) ys) (t - (lost + 1)) 0 room ∙ get_or-drop (lost + 1) ys (t - (lost + 1)) 0
+              ∙ ap (slice_index ys) at in
+              sym here_x ∙ ap (λ zs. slice_index zs (t - (lost + 1))) halves.rest ∙ here_y
+          | inr outside ↦ past_x t outside ∙ sym (past_y t outside)
         ]
+        | inr not_after ↦
+            let same : t ≡ lost = omega arith in
+            ap (slice_index xs) same ∙ x ∙ sym (ap (slice_index ys) same ∙ y)
+      ]
     ])
 
 pub same_plans : (n lost : ℕ) (p q : PlanParts) → n ≤ 10 → lost < n → IsPlan p → IsPlan q → IsBare n lost p → IsBare n lost q
@@ -118,11 +118,11 @@ same_plans n lost p q narrow within is_p is_q bare_p bare_q e =
     let size_q0 = length-of_survivors n lost (slice_index_or q.coefs 0 []) within (omega (arith, q0)) in
     let two = same_halves (n - 1) (of_survivors n lost (slice_index_or p.coefs 0 [])) (of_survivors n lost (slice_index_or q.coefs 0 [])) _ _ size_p0 size_q0 one.rest in
     let choice = same_survivors n lost p.choice q.choice within (omega (arith, is_p.choice_count)) (is_p.choice_count ∙ sym is_q.choice_count) one.front
-        bare_p.choice bare_q.choice bare_p.choice_past bare_q.choice_past in
+    bare_p.choice bare_q.choice bare_p.choice_past bare_q.choice_past in
     let first = same_survivors n lost (slice_index_or p.coefs 0 []) (slice_index_or q.coefs 0 []) within (omega (arith, p0)) (p0 ∙ sym q0) two.front
-        (bare_p.coefs 0) (bare_q.coefs 0) (bare_p.coefs_past 0) (bare_q.coefs_past 0) in
+    (bare_p.coefs 0) (bare_q.coefs 0) (bare_p.coefs_past 0) (bare_q.coefs_past 0) in
     let second = same_survivors n lost (slice_index_or p.coefs 1 []) (slice_index_or q.coefs 1 []) within (omega (arith, p1)) (p1 ∙ sym q1) two.rest
-        (bare_p.coefs 1) (bare_q.coefs 1) (bare_p.coefs_past 1) (bare_q.coefs_past 1) in
+    (bare_p.coefs 1) (bare_q.coefs 1) (bare_p.coefs_past 1) (bare_q.coefs_past 1) in
     let coefs = ext_get_or [] p.coefs q.coefs (is_p.shape.count ∙ sym is_q.shape.count) (λ i l. elim (cases_lt i 1) [
       | inl low ↦
           let zero : i ≡ 0 = omega arith in
@@ -137,7 +137,7 @@ same_plan_lists : (n : ℕ) (w v : Witnesses) → n ≤ 10 → AreWitnesses n w 
     → each n (λ lost. plan_bytes n lost (plan_of w lost)) ≡ each n (λ lost. plan_bytes n lost (plan_of v lost)) → w.plans ≡ v.plans
 same_plan_lists n w v narrow is_w is_v e =
     let at = each_same_at n (3 * (n - 1)) (λ lost. plan_bytes n lost (plan_of w lost)) (λ lost. plan_bytes n lost (plan_of v lost))
-        (λ i h. length-plan_bytes n i (plan_of w i) narrow h (is_w.plans i h)) (λ i h. length-plan_bytes n i (plan_of v i) narrow h (is_v.plans i h)) e in
+    (λ i h. length-plan_bytes n i (plan_of w i) narrow h (is_w.plans i h)) (λ i h. length-plan_bytes n i (plan_of v i) narrow h (is_v.plans i h)) e in
     ext_get_or no_plan w.plans v.plans (is_w.count ∙ sym is_v.count) (λ i l. elim (cases_lt i n) [
       | inl low ↦ same_plans n i (plan_of w i) (plan_of v i) narrow low (is_w.plans i low) (is_v.plans i low) (is_w.bare i low) (is_v.bare i low) (at i low)
       | inr high ↦ is_w.past i high ∙ sym (is_v.past i high)
@@ -161,22 +161,22 @@ same_live n payload a b wide narrow s t =
     let generation = bytes_8-same a.generation b.generation (omega (arith, s.fits.generation.1)) (omega (arith, t.fits.generation.1)) (sym x.generation ∙ y.generation) in
     let len = bytes_8-same a.len b.len (omega (arith, s.fits.len)) (omega (arith, t.fits.len)) (sym x.len ∙ y.len) in
     let row = each_same_at (2 * n) (native_count n) (stored_row n a) (stored_row n b) (length-stored_row n a narrow s.fits) (length-stored_row n b narrow t.fits)
-        (sym x.rows ∙ y.rows) in
+    (sym x.rows ∙ y.rows) in
     let zero_a : (i k : ℕ) → native_count n ≤ k → slice_index (slice_index_or a.code.rows i []) k ≡ 0 =
-        λ i k past. s.fits.code.zero_past i k (rw s.fits.width past) in
+    λ i k past. s.fits.code.zero_past i k (rw s.fits.width past) in
     let zero_b : (i k : ℕ) → native_count n ≤ k → slice_index (slice_index_or b.code.rows i []) k ≡ 0 =
-        λ i k past. t.fits.code.zero_past i k (rw t.fits.width past) in
+    λ i k past. t.fits.code.zero_past i k (rw t.fits.width past) in
     let past_a : (i k : ℕ) → 2 * n ≤ i → slice_index (slice_index_or a.code.rows i []) k ≡ 0 =
-        λ i k past. s.fits.code.rows_past i k (rw s.fits.width past) in
+    λ i k past. s.fits.code.rows_past i k (rw s.fits.width past) in
     let past_b : (i k : ℕ) → 2 * n ≤ i → slice_index (slice_index_or b.code.rows i []) k ≡ 0 =
-        λ i k past. t.fits.code.rows_past i k (rw t.fits.width past) in
+    λ i k past. t.fits.code.rows_past i k (rw t.fits.width past) in
     let rows = same_tables (2 * n) (native_count n) 16 a.code.rows b.code.rows s.fits.code.shape t.fits.code.shape row zero_a zero_b past_a past_b in
     let code = ap₂ (λ w (r : List (List ℕ)). record { width = w; rows = r }) (s.fits.width ∙ sym t.fits.width) rows in
     let slots = same_padded n a.slots b.slots (s.fits.slot_count ∙ sym t.fits.slot_count) (sym x.slots ∙ y.slots) s.fits.slots_past t.fits.slots_past in
     let mark = each_same_at (2 * n) 32 (λ i. slice_index_or a.marks i []) (λ i. slice_index_or b.marks i [])
-        (λ i l. s.fits.marks.widths i (omega arith)) (λ i l. t.fits.marks.widths i (omega arith)) (sym x.marks ∙ y.marks) in
+    (λ i l. s.fits.marks.widths i (omega arith)) (λ i l. t.fits.marks.widths i (omega arith)) (sym x.marks ∙ y.marks) in
     let marks = same_tables (2 * n) 32 32 a.marks b.marks s.fits.marks t.fits.marks (λ i l. ap (take 32) (mark i l))
-        (past_rows 32 a.marks s.fits.marks) (past_rows 32 b.marks t.fits.marks) s.fits.marks_past t.fits.marks_past in
+    (past_rows 32 a.marks s.fits.marks) (past_rows 32 b.marks t.fits.marks) s.fits.marks_past t.fits.marks_past in
     let witnesses = same_witnesses n a.witnesses b.witnesses narrow s.fits.witnesses t.fits.witnesses (sym x.tail ∙ y.tail) in
     λ i. record { generation = generation i; len = len i; code = code i; slots = slots i; marks = marks i; witnesses = witnesses i }
 

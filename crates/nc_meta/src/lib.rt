@@ -7,5 +7,7 @@ mod live;
 mod meta;
 mod plans;
 mod tables;
+#[cfg(test)]
+mod tests;
 
 pub use meta::{Live, Meta};

@@ -40,18 +40,20 @@ returns-then-not-are_bits-clause-none c = λ m s.
 pub returns-in_err-witnesses-clause-none : goal.returns-in_err-witnesses-clause-none
 returns-in_err-witnesses-clause-none c = rw c.from_residual.ensures (λ m s.
     let shape = live_shape _ _ m c.requires.narrow s in
-    c.in_err-witnesses.ensures.none m.witnesses (record { fits = s.fits.witnesses; is_spelling = c.part_of-2.ensures ∙ take_rest c.args.payload.now (tail_at c.args.width) ∙ shape.tail; }))
+    c.in_err-witnesses.ensures.none m.witnesses (record { fits = s.fits.witnesses; is_spelling = c.part_of-2.ensures ∙ take_rest c.args.payload.now (tail_at c.args.width) ∙ shape.tail }))
 
 pub returns-clause-some : goal.returns-clause-some
 returns-clause-some c =
     let are : AreBytes c.args.payload.now = λ i. omega (arith, c.type_inv.payload i) in
     let bits = below_within 2 _ (omega arith) (c.are_bits.ensures.0 c.if-not-are_bits.false) in
     let rows : AreRead 16 21 (2 * c.args.width) (native_count c.args.width) c.args.payload.now c.rows_at.result =
-        record { len = c.rows_at.ensures.len; rows = c.rows_at.ensures.rows; rest = c.rows_at.ensures.rest } in
+    record { len = c.rows_at.ensures.len; rows = c.rows_at.ensures.rows; rest = c.rows_at.ensures.rest } in
     let R : List (List ℕ) → Type 0 = AreRead 16 21 (2 * c.args.width) (native_count c.args.width) c.args.payload.now in
     let W : List ℕ → Type 0 = λ tail. SpellsWitnesses c.args.width tail c.in_ok-witnesses.witnesses in
     live_read _ _ _ (record {
-      narrow = c.requires.narrow; are = are; long = c.if-payload-tail_at.false;
+      narrow = c.requires.narrow;
+      are = are;
+      long = c.if-payload-tail_at.false;
       head = sym c.part_of.ensures ∙ c.is_same.ensures.0 c.if-not-is_same.false;
       generation = c.is_generation.ensures.0 c.if-not-is_generation.false;
       generation_at = c.u64_at-generation.ensures;
