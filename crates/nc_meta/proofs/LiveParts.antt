@@ -1,5 +1,5 @@
 -- A live meta as it is read.
-use Rattle.std.proofs.Common.{arith, refl, sym, ap, ◌∙◌, append_assoc}
+use Rattle.std.proofs.Common.{arith, sym, ap, ◌∙◌, append_assoc}
 use Rattle.std.proofs.lemmas.List.{take_all}
 use Rattle.std.specs.Prelude.{ℕ, ◌≡◌, ◌+◌, ◌*◌, ◌<◌, ◌≤◌, ◌^◌, List, [], ◌∷◌, ◌++◌, length, slice_index, slice_index_or, take, drop}
 use Rattle.nc_bytes.specs.Bytes.{AreBytes, part, bytes_8}
@@ -12,7 +12,7 @@ use Rattle.nc_meta.specs.Metas.{IsLive, SpellsLive, SpellsWitnesses, stored_row}
 use Rattle.nc_meta.proofs.Each.{each_parts, each_same}
 use Rattle.nc_meta.proofs.Padding.{length-padded, padded_below, padded_full, padded_past, take_padded}
 use Rattle.nc_meta.proofs.RowTables.{AreRead, HaveRoom, length-row, rows_past, table_read}
-use Rattle.nc_meta.proofs.MetaParts.{LiveShape, live_of, slots_at, marks_at, tail_at}
+use Rattle.nc_meta.proofs.MetaParts.{live_of, slots_at, marks_at, tail_at}
 
 -- what is tested and made of a payload
 pub record LiveRead (n : ℕ) (payload : List ℕ) (m : Live) : Type 0 where

@@ -1,15 +1,15 @@
 -- What of a payload can be tested, and that it is all.
-use Rattle.std.proofs.Common.{arith, refl, sym, ap, subst, ◌∙◌, length-append}
+use Rattle.std.proofs.Common.{arith, refl, sym, ap, ◌∙◌, length-append}
 use Rattle.std.proofs.lemmas.List.{length-drop, length-take-le, take_all}
-use Rattle.std.specs.Prelude.{ℕ, ◌≡◌, ◌+◌, ◌*◌, ◌<◌, ◌≤◌, ◌^◌, Option, None, Some, List, [], ◌∷◌, ◌++◌, length, slice_index_or, take, drop}
-use Rattle.nc_bytes.specs.Bytes.{AreBytes, part, bytes_8}
-use Rattle.nc_bytes.proofs.Numbers.{length-bytes_8, bytes_8-same}
+use Rattle.std.specs.Prelude.{ℕ, ◌≡◌, ◌+◌, ◌*◌, ◌<◌, ◌≤◌, Option, None, Some, List, [], ◌∷◌, length, slice_index_or, take, drop}
+use Rattle.nc_bytes.specs.Bytes.{part, bytes_8}
+use Rattle.nc_bytes.proofs.Numbers.{length-bytes_8}
 use Rattle.nc_bytes.proofs.Places.{joins, splits}
 use Rattle.nc_gf256.specs.Width.{native_count}
 use Rattle.nc_code.specs.declared.plan.Witnesses.{Witnesses}
 use Rattle.nc_meta.specs.declared.meta.Live.{Live}
-use Rattle.nc_meta.specs.Parts.{each, IsGeneration}
-use Rattle.nc_meta.specs.Metas.{IsLive, SpellsGone, SpellsLive, gone_spelling, live_spelling, stored_row, witness_bytes}
+use Rattle.nc_meta.specs.Parts.{each}
+use Rattle.nc_meta.specs.Metas.{IsLive, SpellsLive, gone_spelling, live_spelling, stored_row, witness_bytes}
 use Rattle.nc_meta.proofs.Each.{length-each}
 
 -- ---- a deleted file

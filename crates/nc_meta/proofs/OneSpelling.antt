@@ -2,19 +2,18 @@
 use Rattle.std.proofs.Common.{arith, refl, sym, ap, ap₂, inl, inr, ◌∙◌}
 use Rattle.std.proofs.lemmas.Bool.{cases_lt}
 use Rattle.std.proofs.lemmas.List.{append-nil, drop_at, ext_get_or, get_or-drop, get_or-take, get_or_past, length-take-le, take_at}
-use Rattle.std.specs.Prelude.{ℕ, ◌≡◌, ◌+◌, ◌-◌, ◌*◌, ◌<◌, ◌≤◌, Option, None, Some, List, [], ◌∷◌, ◌++◌, length, slice_index, slice_index_or, take, drop}
+use Rattle.std.specs.Prelude.{ℕ, ◌≡◌, ◌+◌, ◌-◌, ◌*◌, ◌<◌, ◌≤◌, Option, None, Some, List, [], ◌++◌, length, slice_index, slice_index_or, take, drop}
 use Rattle.nc_bytes.specs.Bytes.{part}
 use Rattle.nc_bytes.proofs.Numbers.{bytes_8-same}
 use Rattle.nc_gf256.specs.Width.{native_count}
-use Rattle.nc_code.specs.Parts.{CodeParts, PlanParts, IsCode, IsPlan, IsTable}
+use Rattle.nc_code.specs.Parts.{PlanParts, IsPlan, IsTable}
 use Rattle.nc_code.specs.Codes.{IsBare, no_plan}
 use Rattle.nc_code.specs.Good.{plan_of}
 use Rattle.nc_code.specs.declared.plan.Witnesses.{Witnesses}
 use Rattle.nc_meta.specs.declared.meta.Live.{Live as LiveMeta}
-use Rattle.nc_meta.specs.declared.meta.Meta.{Meta}
 use Rattle.nc_meta.specs.declared.meta.Meta.TheVariants.{Live, Gone}
 use Rattle.nc_meta.specs.Parts.{each, of_survivors}
-use Rattle.nc_meta.specs.Metas.{AreWitnesses, IsLive, OneSpelling, Spells, SpellsGone, SpellsLive, plan_bytes, stored_row, witness_bytes}
+use Rattle.nc_meta.specs.Metas.{AreWitnesses, OneSpelling, SpellsGone, SpellsLive, plan_bytes, stored_row, witness_bytes}
 use Rattle.std.specs.Prelude.{IfSome}
 use Rattle.nc_meta.proofs.Each.{each_at}
 use Rattle.nc_meta.proofs.PlanParts.{length-of_survivors, length-plan_bytes}

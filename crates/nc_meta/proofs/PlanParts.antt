@@ -4,9 +4,9 @@ use Rattle.std.proofs.lemmas.Bool.{cases_lt}
 use Rattle.std.proofs.lemmas.List.{append-nil, drop-replicate, get_or-replicate, get_or_past, get_or-set_other, get_or-set_same, length-drop, length-set, length-take-le, take_all, take-replicate}
 use Rattle.std.specs.Prelude.{ℕ, ◌≡◌, ◌+◌, ◌-◌, ◌*◌, ◌<◌, ◌≤◌, zero, suc, List, [], ◌∷◌, ◌++◌, length, replicate, slice_index, slice_index_or, slice_set, take, drop}
 use Rattle.nc_bytes.specs.Bytes.{part}
-use Rattle.nc_bytes.proofs.Places.{joins, splits, length-part}
+use Rattle.nc_bytes.proofs.Places.{joins, length-part}
 use Rattle.nc_code.specs.Parts.{PlanParts, IsPlan}
-use Rattle.nc_code.specs.Codes.{IsBare, no_plan}
+use Rattle.nc_code.specs.Codes.{no_plan}
 use Rattle.nc_code.specs.Good.{plan_of}
 use Rattle.nc_code.specs.declared.plan.Witnesses.{Witnesses}
 use Rattle.nc_meta.specs.Parts.{each, of_survivors, spread}

@@ -1,9 +1,9 @@
 -- Rows as they are read.
-use Rattle.std.proofs.Common.{arith, inl, inr, refl, sym, ap, ◌∙◌}
+use Rattle.std.proofs.Common.{arith, inl, inr, ap, ◌∙◌}
 use Rattle.std.proofs.Math.Nat.{mul-le-mul_right, suc-mul}
 use Rattle.std.proofs.lemmas.Bool.{cases_lt}
 use Rattle.std.proofs.lemmas.List.{get_or_past}
-use Rattle.std.specs.Prelude.{ℕ, ◌≡◌, ◌+◌, ◌*◌, ◌<◌, ◌≤◌, suc, List, [], length, slice_index, slice_index_or, take}
+use Rattle.std.specs.Prelude.{ℕ, ◌≡◌, ◌+◌, ◌*◌, ◌<◌, ◌≤◌, suc, List, [], length, slice_index, slice_index_or}
 use Rattle.nc_bytes.specs.Bytes.{AreBytes, part}
 use Rattle.nc_bytes.proofs.Places.{length-part, part_bytes}
 use Rattle.nc_code.specs.Parts.{IsTable}

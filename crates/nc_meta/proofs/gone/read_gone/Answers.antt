@@ -1,4 +1,4 @@
-use Rattle.std.proofs.Common.{arith, sym, ap, subst, ◌∙◌}
+use Rattle.std.proofs.Common.{arith, sym, subst, ◌∙◌}
 use Rattle.nc_bytes.proofs.Numbers.{bytes_8-same}
 use Rattle.nc_meta.specs.Parts.{IsGeneration}
 use Rattle.nc_meta.proofs.MetaParts.{gone_shape, gone_of}

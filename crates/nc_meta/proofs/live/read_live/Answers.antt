@@ -25,8 +25,8 @@ returns-then-not-is_generation-clause-none c = λ m s.
     let same = bytes_8-same _ m.generation c.u64_at-generation.type_inv (omega (arith, s.fits.generation.1)) (c.u64_at-generation.ensures ∙ shape.generation) in
     absurd (cc (c.is_generation.ensures.1 (subst IsGeneration (sym same) s.fits.generation), c.if-not-is_generation.true))
 
-pub returns-then-len-gt67108864-clause-none : goal.returns-then-len-gt67108864-clause-none
-returns-then-len-gt67108864-clause-none c = λ m s.
+pub returns-then-len-gt-LONGEST-clause-none : goal.returns-then-len-gt-LONGEST-clause-none
+returns-then-len-gt-LONGEST-clause-none c = λ m s.
     let shape = live_shape _ _ m c.requires.narrow s in
     let same = bytes_8-same _ m.len c.u64_at-len.type_inv (omega (arith, s.fits.len)) (c.u64_at-len.ensures ∙ shape.len) in
     absurd (omega (arith, same, s.fits.len))
@@ -57,7 +57,7 @@ returns-clause-some c =
       head = sym c.part_of.ensures ∙ c.is_same.ensures.0 c.if-not-is_same.false;
       generation = c.is_generation.ensures.0 c.if-not-is_generation.false;
       generation_at = c.u64_at-generation.ensures;
-      len = c.if-len-gt67108864.false;
+      len = c.if-len-gt-LONGEST.false;
       len_at = c.u64_at-len.ensures;
       width = ap (λ (k : CodeParts). k.width) c.new.ensures.parts;
       code = c.new.ensures.kept;

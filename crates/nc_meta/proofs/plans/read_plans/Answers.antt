@@ -1,7 +1,5 @@
-use Rattle.std.proofs.Common.{arith, ℕ, ◌*◌, ◌-◌, length, ◌≡◌, ◌∙◌, ap, sym, subst}
-use Rattle.nc_code.specs.Parts.{PlanParts}
+use Rattle.std.proofs.Common.{arith, ℕ, ◌*◌, ◌-◌, length, ◌≡◌, ◌∙◌, ap, subst}
 use Rattle.nc_code.specs.Good.{plan_of}
-use Rattle.nc_meta.specs.Metas.{SpellsPlan}
 use Rattle.nc_meta.proofs.PlanParts.{ReadPlans, plans_none, plans_more, plans_all, plan_at, length-plans}
 use Rattle.nc_meta.proofs.plans.read_plans.Goals as goal
 

@@ -1,4 +1,4 @@
-use Rattle.std.proofs.Common.{Some, ap, sym}
+use Rattle.std.proofs.Common.{Some, ap}
 use Rattle.nc_meta.specs.declared.meta.Meta.TheVariants.{Live, Gone}
 use Rattle.nc_meta.proofs.OneSpelling.{one_spelling}
 use Rattle.nc_meta.proofs.meta.Meta.read.Goals as goal
