@@ -4,3 +4,5 @@ pub mod PlanParts
 pub mod RowTables
 pub mod MetaParts
 pub mod LiveParts
+pub mod OneSpelling
+pub mod MetasFit

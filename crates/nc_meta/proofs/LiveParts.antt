@@ -1,5 +1,5 @@
 -- A live meta as it is read.
-use Rattle.std.proofs.Common.{arith, refl, sym, ap, ◌∙◌, append_assoc}
+use Rattle.std.proofs.Common.{arith, sym, ap, ◌∙◌, append_assoc}
 use Rattle.std.proofs.lemmas.List.{take_all}
 use Rattle.std.specs.Prelude.{ℕ, ◌≡◌, ◌+◌, ◌*◌, ◌<◌, ◌≤◌, ◌^◌, List, [], ◌∷◌, ◌++◌, length, slice_index, slice_index_or, take, drop}
 use Rattle.nc_bytes.specs.Bytes.{AreBytes, part, bytes_8}
@@ -12,7 +12,7 @@ use Rattle.nc_meta.specs.Metas.{IsLive, SpellsLive, SpellsWitnesses, stored_row}
 use Rattle.nc_meta.proofs.Each.{each_parts, each_same}
 use Rattle.nc_meta.proofs.Padding.{length-padded, padded_below, padded_full, padded_past, take_padded}
 use Rattle.nc_meta.proofs.RowTables.{AreRead, HaveRoom, length-row, rows_past, table_read}
-use Rattle.nc_meta.proofs.MetaParts.{LiveShape, live_of, slots_at, marks_at, tail_at}
+use Rattle.nc_meta.proofs.MetaParts.{live_of, slots_at, marks_at, tail_at}
 
 -- what is tested and made of a payload
 pub record LiveRead (n : ℕ) (payload : List ℕ) (m : Live) : Type 0 where
@@ -38,13 +38,16 @@ live_read n payload m r =
     let rows_room : HaveRoom 16 21 (2 * n) (native_count n) payload = record { rows = omega arith; sizes = omega arith; fits = omega arith } in
     let marks_room : HaveRoom 32 (marks_at n) (2 * n) 32 payload = record { rows = omega arith; sizes = omega arith; fits = omega arith } in
     let row : (i : ℕ) → i < 2 * n → part (21 + i * native_count n) (native_count n) payload ≡ stored_row n m i =
-        λ i l. sym (ap (take (native_count n)) (r.rows.rows i l)
-            ∙ take_padded 16 (native_count n) (part (21 + i * native_count n) (native_count n) payload) (length-row 16 21 (2 * n) (native_count n) payload rows_room i l)) in
+    λ i l. sym (ap (take (native_count n)) (r.rows.rows i l)
+    ∙ take_padded 16 (native_count n) (part (21 + i * native_count n) (native_count n) payload) (length-row 16 21 (2 * n) (native_count n) payload rows_room i l)) in
     let mark : (i : ℕ) → i < 2 * n → part (marks_at n + i * 32) 32 payload ≡ slice_index_or m.marks i [] =
-        λ i l. sym (r.marks.rows i l ∙ padded_full 32 (part (marks_at n + i * 32) 32 payload) (length-row 32 (marks_at n) (2 * n) 32 payload marks_room i l)) in
+    λ i l. sym (r.marks.rows i l ∙ padded_full 32 (part (marks_at n + i * 32) 32 payload) (length-row 32 (marks_at n) (2 * n) 32 payload marks_room i l)) in
     record {
       fits = record {
-        generation = r.generation; len = r.len; width = r.width; code = r.code;
+        generation = r.generation;
+        len = r.len;
+        width = r.width;
+        code = r.code;
         slot_count = ap length r.slots ∙ length-padded 10 (part (slots_at n) n payload) (omega (arith, slots_long, r.narrow));
         slots = rw r.slots (padded_below 2 10 (part (slots_at n) n payload) (omega arith) r.bits);
         slots_past = λ c past. ap (λ (xs : List ℕ). slice_index xs c) r.slots ∙ padded_past 10 (part (slots_at n) n payload) c (omega (arith, slots_long));
@@ -53,8 +56,10 @@ live_read n payload m r =
         witnesses = r.witnesses.fits;
       };
       is_spelling = live_of n payload m (record {
-        long = r.long; head = r.head;
-        generation = sym r.generation_at; len = sym r.len_at;
+        long = r.long;
+        head = r.head;
+        generation = sym r.generation_at;
+        len = sym r.len_at;
         rows = sym (each_parts (2 * n) 21 (native_count n) payload) ∙ each_same (2 * n) (λ i. part (21 + i * native_count n) (native_count n) payload) (stored_row n m) row;
         slots = sym (ap (take n) r.slots ∙ take_padded 10 n (part (slots_at n) n payload) slots_long);
         marks = sym (each_parts (2 * n) (marks_at n) 32 payload) ∙ each_same (2 * n) (λ i. part (marks_at n + i * 32) 32 payload) (λ i. slice_index_or m.marks i []) mark;
@@ -68,8 +73,8 @@ pub chained : (b0 b1 b2 b3 b4 b5 b6 b7 x1 x2 x3 x4 x5 x6 x7 : List ℕ) → b0 �
 chained b0 b1 b2 b3 b4 b5 b6 b7 x1 x2 x3 x4 x5 x6 x7 e0 e1 e2 e3 e4 e5 e6 e7 =
     let one : b1 ≡ x1 = e1 ∙ ap (λ (l : List ℕ). l ++ x1) e0 in
     let all : b7 ≡ (((((x1 ++ x2) ++ x3) ++ x4) ++ x5) ++ x6) ++ x7 =
-        e7 ∙ ap (λ (l : List ℕ). l ++ x7) (e6 ∙ ap (λ (l : List ℕ). l ++ x6) (e5 ∙ ap (λ (l : List ℕ). l ++ x5) (e4 ∙ ap (λ (l : List ℕ). l ++ x4)
-        (e3 ∙ ap (λ (l : List ℕ). l ++ x3) (e2 ∙ ap (λ (l : List ℕ). l ++ x2) one))))) in
+    e7 ∙ ap (λ (l : List ℕ). l ++ x7) (e6 ∙ ap (λ (l : List ℕ). l ++ x6) (e5 ∙ ap (λ (l : List ℕ). l ++ x5) (e4 ∙ ap (λ (l : List ℕ). l ++ x4)
+    (e3 ∙ ap (λ (l : List ℕ). l ++ x3) (e2 ∙ ap (λ (l : List ℕ). l ++ x2) one))))) in
     all ∙ simp append_assoc
 
 -- marks are written whole

@@ -1,15 +1,15 @@
 -- What of a payload can be tested, and that it is all.
-use Rattle.std.proofs.Common.{arith, refl, sym, ap, subst, ◌∙◌, length-append}
+use Rattle.std.proofs.Common.{arith, refl, sym, ap, ◌∙◌, length-append}
 use Rattle.std.proofs.lemmas.List.{length-drop, length-take-le, take_all}
-use Rattle.std.specs.Prelude.{ℕ, ◌≡◌, ◌+◌, ◌*◌, ◌<◌, ◌≤◌, ◌^◌, Option, None, Some, List, [], ◌∷◌, ◌++◌, length, slice_index_or, take, drop}
-use Rattle.nc_bytes.specs.Bytes.{AreBytes, part, bytes_8}
-use Rattle.nc_bytes.proofs.Numbers.{length-bytes_8, bytes_8-same}
+use Rattle.std.specs.Prelude.{ℕ, ◌≡◌, ◌+◌, ◌*◌, ◌<◌, ◌≤◌, Option, None, Some, List, [], ◌∷◌, length, slice_index_or, take, drop}
+use Rattle.nc_bytes.specs.Bytes.{part, bytes_8}
+use Rattle.nc_bytes.proofs.Numbers.{length-bytes_8}
 use Rattle.nc_bytes.proofs.Places.{joins, splits}
 use Rattle.nc_gf256.specs.Width.{native_count}
 use Rattle.nc_code.specs.declared.plan.Witnesses.{Witnesses}
 use Rattle.nc_meta.specs.declared.meta.Live.{Live}
-use Rattle.nc_meta.specs.Parts.{each, IsGeneration}
-use Rattle.nc_meta.specs.Metas.{IsLive, SpellsGone, SpellsLive, gone_spelling, live_spelling, stored_row, witness_bytes}
+use Rattle.nc_meta.specs.Parts.{each}
+use Rattle.nc_meta.specs.Metas.{IsLive, SpellsLive, gone_spelling, live_spelling, stored_row, witness_bytes}
 use Rattle.nc_meta.proofs.Each.{length-each}
 
 -- ---- a deleted file
@@ -61,7 +61,7 @@ some_tail : (n : ℕ) (w : Option Witnesses) → 0 < length (witness_bytes n w)
 some_tail n None = omega arith
 some_tail n (Some w) = omega arith
 
-length-stored_row : (n : ℕ) (m : Live) → n ≤ 10 → IsLive n m → (i : ℕ) → i < 2 * n → length (stored_row n m i) ≡ native_count n
+pub length-stored_row : (n : ℕ) (m : Live) → n ≤ 10 → IsLive n m → (i : ℕ) → i < 2 * n → length (stored_row n m i) ≡ native_count n
 length-stored_row n m narrow is i l =
     let long : length (slice_index_or m.code.rows i []) ≡ 16 = is.code.shape.widths i (omega arith) in
     length-take-le (native_count n) (slice_index_or m.code.rows i []) (omega arith)
@@ -81,7 +81,13 @@ live_shape n payload m narrow s =
     let end : length (drop (tail_at n) payload) ≡ length (witness_bytes n m.witnesses) = ap length six.rest in
     record {
       long = omega (arith, length-drop (tail_at n) payload, some_tail n m.witnesses, end);
-      head = one.here; generation = two.here; len = three.here; rows = four.here; slots = five.here; marks = six.here; tail = six.rest;
+      head = one.here;
+      generation = two.here;
+      len = three.here;
+      rows = four.here;
+      slots = five.here;
+      marks = six.here;
+      tail = six.rest;
     }
 
 pub live_of : (n : ℕ) (payload : List ℕ) (m : Live) → LiveShape n payload m → payload ≡ live_spelling n m

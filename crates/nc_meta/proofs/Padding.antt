@@ -3,7 +3,6 @@ use Rattle.std.proofs.Common.{arith, refl, sym, ap, ap₂, ◌∙◌, append_ass
 use Rattle.std.proofs.lemmas.Bool.{cases_lt}
 use Rattle.std.proofs.lemmas.List.{append-nil, drop-drop, drop_at, get_or-append_right, get_or_append_left, get_or-drop, get_or-replicate, get_or-take, get_or_at, get_or_past, length-drop, length-replicate, length-take, length-take-le, take_at}
 use Rattle.std.specs.Prelude.{ℕ, ◌≡◌, ◌+◌, ◌-◌, ◌<◌, ◌≤◌, zero, suc, List, [], ◌∷◌, ◌++◌, length, replicate, slice_index, take, drop}
-use Rattle.nc_bytes.specs.Bytes.{part}
 use Rattle.nc_meta.specs.Parts.{padded, of_survivors, spread}
 
 -- ---- all below a bound

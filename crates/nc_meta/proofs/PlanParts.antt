@@ -4,9 +4,9 @@ use Rattle.std.proofs.lemmas.Bool.{cases_lt}
 use Rattle.std.proofs.lemmas.List.{append-nil, drop-replicate, get_or-replicate, get_or_past, get_or-set_other, get_or-set_same, length-drop, length-set, length-take-le, take_all, take-replicate}
 use Rattle.std.specs.Prelude.{ℕ, ◌≡◌, ◌+◌, ◌-◌, ◌*◌, ◌<◌, ◌≤◌, zero, suc, List, [], ◌∷◌, ◌++◌, length, replicate, slice_index, slice_index_or, slice_set, take, drop}
 use Rattle.nc_bytes.specs.Bytes.{part}
-use Rattle.nc_bytes.proofs.Places.{joins, splits, length-part}
+use Rattle.nc_bytes.proofs.Places.{joins, length-part}
 use Rattle.nc_code.specs.Parts.{PlanParts, IsPlan}
-use Rattle.nc_code.specs.Codes.{IsBare, no_plan}
+use Rattle.nc_code.specs.Codes.{no_plan}
 use Rattle.nc_code.specs.Good.{plan_of}
 use Rattle.nc_code.specs.declared.plan.Witnesses.{Witnesses}
 use Rattle.nc_meta.specs.Parts.{each, of_survivors, spread}
@@ -21,9 +21,9 @@ pub spread_written : (lost : ℕ) (bytes before one after rest : List ℕ) → l
 spread_written lost bytes before one after rest within short b o a r =
     let zero_is : one ≡ 0 ∷ [] = o ∙ take-replicate 1 (10 - lost) 0 (omega arith) in
     let left : rest ≡ replicate (10 - lost - 1 - length after) 0 =
-        r ∙ ap (drop (length after)) (drop-replicate 1 (10 - lost) 0) ∙ drop-replicate (length after) (10 - lost - 1) 0 in
+    r ∙ ap (drop (length after)) (drop-replicate 1 (10 - lost) 0) ∙ drop-replicate (length after) (10 - lost - 1) 0 in
     let count : 10 - lost - 1 - length after ≡ 10 - length (take lost bytes ++ (0 ∷ drop lost bytes)) =
-        omega (arith, length-gap lost bytes within, ap length a, length-drop lost bytes) in
+    omega (arith, length-gap lost bytes within, ap length a, length-drop lost bytes) in
     let zeros = left ∙ ap (λ n. replicate n 0) count in
     let tail = ap₂ (λ (l m : List ℕ). l ++ m) zero_is (ap₂ (λ (l m : List ℕ). l ++ m) a zeros) in
     ap₂ (λ (l m : List ℕ). l ++ m) b tail
@@ -98,9 +98,9 @@ plans_none n size bytes = record {
   count = refl;
   done = λ j l. absurd (omega arith);
   rest = λ j l. elim (cases_lt j 10) [
-      | inl low ↦ get_or-replicate 10 j no_plan no_plan low
-      | inr high ↦ get_or_past (replicate 10 no_plan) j no_plan high
-    ];
+    | inl low ↦ get_or-replicate 10 j no_plan no_plan low
+    | inr high ↦ get_or_past (replicate 10 no_plan) j no_plan high
+  ];
 }
 
 pub plans_more : (n size k : ℕ) (bytes : List ℕ) (plans : List PlanParts) (p : PlanParts) → k < 10 → ReadPlans n size k bytes plans
@@ -108,17 +108,17 @@ pub plans_more : (n size k : ℕ) (bytes : List ℕ) (plans : List PlanParts) (p
 plans_more n size k bytes plans p room read here = record {
   count = length-set plans k p ∙ read.count;
   done = λ j l. elim (cases_lt j k) [
-      | inl low ↦
-          let e = get_or-set_other plans k j p no_plan (λ (h : j ≡ k). absurd (omega arith)) in
-          let P : PlanParts → Type 0 = SpellsPlan n j (part (j * size) size bytes) in
-          subst P (sym e) (read.done j low)
-      | inr high ↦
-          let same : k ≡ j = omega arith in
-          let e = get_or-set_same plans k p no_plan (omega (arith, read.count)) in
-          let P : ℕ → Type 0 = λ i. SpellsPlan n i (part (i * size) size bytes) (slice_index_or (slice_set plans k p) i no_plan) in
-          let Q : PlanParts → Type 0 = SpellsPlan n k (part (k * size) size bytes) in
-          subst P same (subst Q (sym e) here)
-    ];
+    | inl low ↦
+        let e = get_or-set_other plans k j p no_plan (λ (h : j ≡ k). absurd (omega arith)) in
+        let P : PlanParts → Type 0 = SpellsPlan n j (part (j * size) size bytes) in
+        subst P (sym e) (read.done j low)
+    | inr high ↦
+        let same : k ≡ j = omega arith in
+        let e = get_or-set_same plans k p no_plan (omega (arith, read.count)) in
+        let P : ℕ → Type 0 = λ i. SpellsPlan n i (part (i * size) size bytes) (slice_index_or (slice_set plans k p) i no_plan) in
+        let Q : PlanParts → Type 0 = SpellsPlan n k (part (k * size) size bytes) in
+        subst P same (subst Q (sym e) here)
+  ];
   rest = λ j l. get_or-set_other plans k j p no_plan (λ (h : j ≡ k). absurd (omega arith)) ∙ read.rest j (omega arith);
 }
 
@@ -129,7 +129,7 @@ plans_all n size bytes plans long read =
     let whole = sym (take_all (n * size) bytes (omega arith)) in
     let parts = sym (each_parts n 0 size bytes) in
     let at = each_same n (λ i. part (0 + i * size) size bytes) (λ i. plan_bytes n i (plan_of w i))
-        (λ i l. ap (λ k. part k size bytes) (zero-add (i * size)) ∙ (read.done i l).is_spelling) in
+    (λ i l. ap (λ k. part k size bytes) (zero-add (i * size)) ∙ (read.done i l).is_spelling) in
     record {
       fits = record {
         count = read.count;

@@ -1,9 +1,9 @@
 -- Rows as they are read.
-use Rattle.std.proofs.Common.{arith, inl, inr, refl, sym, ap, ◌∙◌}
+use Rattle.std.proofs.Common.{arith, inl, inr, ap, ◌∙◌}
 use Rattle.std.proofs.Math.Nat.{mul-le-mul_right, suc-mul}
 use Rattle.std.proofs.lemmas.Bool.{cases_lt}
 use Rattle.std.proofs.lemmas.List.{get_or_past}
-use Rattle.std.specs.Prelude.{ℕ, ◌≡◌, ◌+◌, ◌*◌, ◌<◌, ◌≤◌, suc, List, [], length, slice_index, slice_index_or, take}
+use Rattle.std.specs.Prelude.{ℕ, ◌≡◌, ◌+◌, ◌*◌, ◌<◌, ◌≤◌, suc, List, [], length, slice_index, slice_index_or}
 use Rattle.nc_bytes.specs.Bytes.{AreBytes, part}
 use Rattle.nc_bytes.proofs.Places.{length-part, part_bytes}
 use Rattle.nc_code.specs.Parts.{IsTable}
@@ -39,18 +39,18 @@ pub table_read : (N at count size : ℕ) (bytes : List ℕ) (table : List (List 
 table_read N at count size bytes table room are read = record {
   count = read.len;
   widths = λ i l. elim (cases_lt i count) [
-      | inl low ↦
-          let e = length-row N at count size bytes room i low in
-          ap length (read.rows i low) ∙ length-padded N (part (at + i * size) size bytes) (omega (arith, e, room.sizes))
-      | inr high ↦ ap length (read.rest i high l) ∙ length-padded N [] (omega arith)
-    ];
+    | inl low ↦
+        let e = length-row N at count size bytes room i low in
+        ap length (read.rows i low) ∙ length-padded N (part (at + i * size) size bytes) (omega (arith, e, room.sizes))
+    | inr high ↦ ap length (read.rest i high l) ∙ length-padded N [] (omega arith)
+  ];
   bytes = λ i. elim (cases_lt i count) [
-      | inl low ↦ let e = read.rows i low in rw e (padded_below 256 N (part (at + i * size) size bytes) (omega arith) (part_bytes (at + i * size) size bytes are))
-      | inr high ↦ elim (cases_lt i 20) [
-          | inl within ↦ let e = read.rest i high within in rw e (padded_below 256 N [] (omega arith) (λ k. omega arith))
-          | inr past ↦ let e = past_end i table read.len past in rw e (λ k. omega arith)
-        ]
-    ];
+    | inl low ↦ let e = read.rows i low in rw e (padded_below 256 N (part (at + i * size) size bytes) (omega arith) (part_bytes (at + i * size) size bytes are))
+    | inr high ↦ elim (cases_lt i 20) [
+      | inl within ↦ let e = read.rest i high within in rw e (padded_below 256 N [] (omega arith) (λ k. omega arith))
+      | inr past ↦ let e = past_end i table read.len past in rw e (λ k. omega arith)
+    ]
+  ];
 }
 
 pub rows_past : (N at count size : ℕ) (bytes : List ℕ) (table : List (List ℕ)) → AreRead N at count size bytes table

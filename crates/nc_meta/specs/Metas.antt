@@ -1,6 +1,6 @@
 -- The payloads of metadata: which values are stored, and their spelling.
 use Rattle.std.specs.Prelude.{ℕ, ◌≡◌, ◌*◌, ◌<◌, ◌≤◌, ◌^◌, Option, None, Some, List, [], ◌∷◌, ◌++◌, IfSome, length, slice_index, slice_index_or, take}
-use Rattle.nc_bytes.specs.Bytes.{bytes_8}
+use Rattle.nc_bytes.specs.Bytes.{AreBytes, bytes_8}
 use Rattle.nc_gf256.specs.Width.{native_count}
 use Rattle.nc_code.specs.Parts.{PlanParts, IsCode, IsPlan, IsTable}
 use Rattle.nc_code.specs.Codes.{IsBare, no_plan}
@@ -108,3 +108,7 @@ pub record SpellsPlan (n lost : ℕ) (bytes : List ℕ) (p : PlanParts) : Type 0
 -- no payload is that of two metas
 abbrev pub OneSpelling : Type 0
 OneSpelling = (n : ℕ) → 4 ≤ n → n ≤ 10 → (payload : List ℕ) (a b : Meta) → Spells n payload a → Spells n payload b → a ≡ b
+
+-- each payload is short enough for a frame, and made of bytes
+abbrev pub MetasFit : Type 0
+MetasFit = (n : ℕ) → 4 ≤ n → n ≤ 10 → (payload : List ℕ) (m : Meta) → Spells n payload m → (length payload ≤ 1262) × AreBytes payload

@@ -1,5 +1,5 @@
 -- The parts of payloads.
-use Rattle.std.specs.Prelude.{ℕ, ◌≡◌, ◌+◌, ◌-◌, ◌<◌, ◌≤◌, ◌^◌, zero, suc, List, [], ◌∷◌, ◌++◌, length, replicate, slice_index, take, drop}
+use Rattle.std.specs.Prelude.{ℕ, ◌+◌, ◌-◌, ◌<◌, ◌≤◌, ◌^◌, zero, suc, List, [], ◌∷◌, ◌++◌, length, replicate, slice_index, take, drop}
 use Rattle.nc_bytes.specs.Bytes.{part}
 
 -- f 0, f 1 and so on, so many of them, end to end

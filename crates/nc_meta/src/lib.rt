@@ -2,9 +2,12 @@
 #![tactic(auto)]
 
 mod gone;
+pub mod laws;
 mod live;
 mod meta;
 mod plans;
 mod tables;
+#[cfg(test)]
+mod tests;
 
 pub use meta::{Live, Meta};

@@ -12,6 +12,9 @@ use nc_code::Code;
 use nc_name::Memory;
 use std::alloc::Global;
 
+/// The bytes of the longest file that is stored, 2^26.
+const LONGEST: u64 = 67_108_864;
+
 /// What is stored of a file that has a content.
 pub(crate) fn read_live(width: u8, payload: &[u8]) -> Option<Live>
     requires wide { 4 ≤ width }
@@ -35,7 +38,7 @@ pub(crate) fn read_live(width: u8, payload: &[u8]) -> Option<Live>
         return None;
     }
     let len = u64_at(payload, 13);
-    if 67_108_864 < len {
+    if LONGEST < len {
         return None;
     }
     let slots = part_of(payload, slots_at, n);

@@ -1,4 +1,4 @@
-ghost use Rattle.std.specs.Prelude.{◌≡◌, ◌≤◌, IfOk, IfSome, IfNone};
+ghost use Rattle.std.specs.Prelude.{◌≡◌, ◌≤◌, Some, IfOk, IfSome, IfNone};
 ghost use Rattle.nc_meta.specs.declared.meta.Meta.{Meta as MetaValue};
 ghost use Rattle.nc_meta.specs.Metas.{IsMeta, Spells, generation_of};
 
@@ -62,6 +62,7 @@ impl Meta {
         requires narrow { width ≤ 10 }
         ensures some { IfSome result (Spells width payload.now) }
         ensures none { IfNone result ((meta : MetaValue) → Spells width payload.now meta → ⊥) }
+        ensures is { (meta : MetaValue) → Spells width payload.now meta → result ≡ Some meta }
     {
         if let Some(generation) = read_gone(payload) {
             return Some(Meta::Gone { generation });

@@ -1,4 +1,4 @@
-use Rattle.std.proofs.Common.{arith, sym, ap, subst, ◌∙◌}
+use Rattle.std.proofs.Common.{arith, sym, subst, ◌∙◌}
 use Rattle.nc_bytes.proofs.Numbers.{bytes_8-same}
 use Rattle.nc_meta.specs.Parts.{IsGeneration}
 use Rattle.nc_meta.proofs.MetaParts.{gone_shape, gone_of}
@@ -15,10 +15,10 @@ pub returns-then-is_generation-clause-some : goal.returns-then-is_generation-cla
 returns-then-is_generation-clause-some c = record {
   fits = c.is_generation.ensures.0 c.if-is_generation.true;
   is_spelling = gone_of _ _ (record {
-      total = c.if-payload-ne13.false;
-      head = sym c.part_of.ensures ∙ c.is_same.ensures.0 c.if-not-is_same.false;
-      generation = sym c.u64_at-generation.ensures;
-    });
+    total = c.if-payload-ne13.false;
+    head = sym c.part_of.ensures ∙ c.is_same.ensures.0 c.if-not-is_same.false;
+    generation = sym c.u64_at-generation.ensures;
+  });
 }
 
 pub returns-else-is_generation-clause-none : goal.returns-else-is_generation-clause-none

@@ -1,4 +1,4 @@
-use Rattle.std.proofs.Common.{arith, ℕ, ◌≡◌, ◌++◌, ◌∙◌, ap}
+use Rattle.std.proofs.Common.{arith, ◌≡◌, ◌++◌, ◌∙◌, ap}
 use Rattle.nc_code.specs.Good.{plan_of}
 use Rattle.nc_meta.specs.Parts.{each}
 use Rattle.nc_meta.specs.Metas.{plan_bytes}

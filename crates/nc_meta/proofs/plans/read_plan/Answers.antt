@@ -18,6 +18,6 @@ returns-clause-some c =
     let second = c.spread-second.ensures ∙ ap (spread c.args.lost) c.part_of-2.ensures in
     let coefs = ap₂ (λ (a b : List ℕ). a ∷ b ∷ []) first second in
     let same : c.new.result ≡ plan_read c.args.n c.args.lost c.args.bytes.now =
-        c.new.ensures.parts ∙ ap₂ (λ (a : List ℕ) (b : List (List ℕ)). record { choice = a; coefs = b }) choice coefs in
+    c.new.ensures.parts ∙ ap₂ (λ (a : List ℕ) (b : List (List ℕ)). record { choice = a; coefs = b }) choice coefs in
     let P : PlanParts → Type 0 = SpellsPlan c.args.n c.args.lost c.args.bytes.now in
     subst P (sym same) (spells_read _ _ _ c.requires.lost c.requires.long (subst IsPlan same c.new.ensures.kept))

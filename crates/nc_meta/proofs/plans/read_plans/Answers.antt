@@ -1,7 +1,5 @@
-use Rattle.std.proofs.Common.{arith, ℕ, ◌*◌, ◌-◌, length, ◌≡◌, ◌∙◌, ap, sym, subst}
-use Rattle.nc_code.specs.Parts.{PlanParts}
+use Rattle.std.proofs.Common.{arith, ℕ, ◌*◌, ◌-◌, length, ◌≡◌, ◌∙◌, ap, subst}
 use Rattle.nc_code.specs.Good.{plan_of}
-use Rattle.nc_meta.specs.Metas.{SpellsPlan}
 use Rattle.nc_meta.proofs.PlanParts.{ReadPlans, plans_none, plans_more, plans_all, plan_at, length-plans}
 use Rattle.nc_meta.proofs.plans.read_plans.Goals as goal
 
@@ -11,7 +9,7 @@ returns-then-bytes-n-clause-none c = λ w s. c.if-bytes-n.true (ap length s.is_s
 pub returns-in_err-plans-clause-none : goal.returns-in_err-plans-clause-none
 returns-in_err-plans-clause-none c = rw c.from_residual.ensures (λ w s.
     let p = plan_at _ _ w c.requires.narrow s c.loop-lost.lost c.loop-lost-test.true in
-    c.in_err-plans.ensures.none (plan_of w c.loop-lost.lost) (record { plan = p.plan; bare = p.bare; is_spelling = c.part_of.ensures ∙ p.is_spelling; }))
+    c.in_err-plans.ensures.none (plan_of w c.loop-lost.lost) (record { plan = p.plan; bare = p.bare; is_spelling = c.part_of.ensures ∙ p.is_spelling }))
 
 pub loop-lost-init : goal.loop-lost-init
 loop-lost-init c = rw c.none-plans.ensures (plans_none _ _ _)
