@@ -1,5 +1,9 @@
+mod FanGets
+mod FanPuts
+mod Fans
 pub mod Numbered
 mod RecordLaws
 pub mod Rounds
+mod SeatLaws
 mod Served
 mod Serves

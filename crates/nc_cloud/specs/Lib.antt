@@ -1,6 +1,8 @@
 pub mod Cloud
 pub mod Contents
+pub mod Fan
 pub mod Fleet
 pub mod Memory
-pub mod Rounds
 pub mod Record
+pub mod Rounds
+pub mod Seats
