@@ -11,7 +11,7 @@ module _ {A : Type 0} (front old : List A) (i : ℕ) (d : A) (l : i < length old
   split : drop i old ≡ get_or old i d ∷ drop (i + 1) old
   split = let next : suc i ≡ i + 1 = omega arith in drop-cons old i d l ∙ ap (λ k. get_or old i d ∷ drop k old) next
 
-  get_front : get_or (front ++ drop i old) i d ≡ get_or old i d
+  pub get_front : get_or (front ++ drop i old) i d ≡ get_or old i d
   get_front = ap (λ ys. get_or (front ++ ys) i d) split ∙ ap (λ k. get_or (front ++ get_or old i d ∷ drop (i + 1) old) k d) (sym is) ∙ get_or-append_seam front (get_or old i d) (drop (i + 1) old) d
 
   set_front : (y : A) → set (front ++ drop i old) i y ≡ (front ++ y ∷ []) ++ drop (i + 1) old

@@ -1,0 +1,87 @@
+-- Clouds in seats, and what a round does at each of them.
+use Rattle.std.specs.Prelude.{ℕ, ◌≡◌, ◌≢◌, ◌≤◌, ◌<◌, length, ◌&&◌, if◌then◌else◌, Option, None, Some, Result, Ok, Err, List, map, find, nat_eq, slice_index_or}
+use Rattle.nc_cloud.specs.declared.fleet.Ask.{Ask}
+use Rattle.nc_cloud.specs.declared.fleet.Job.{Job}
+use Rattle.nc_cloud.specs.declared.fleet.Done.{Done}
+use Rattle.nc_cloud.specs.declared.fleet.Done.TheVariants as done
+use Rattle.nc_cloud.specs.declared.fleet.Answer.{Answer}
+use Rattle.nc_cloud.specs.declared.fleet.Answer.TheVariants as answer
+use Rattle.nc_cloud.specs.declared.cloud.Got.{Got}
+use Rattle.nc_cloud.specs.declared.cloud.Got.TheVariants.{Bytes, Absent, Long}
+use Rattle.nc_cloud.specs.declared.cloud.CloudError.{CloudError}
+use Rattle.nc_cloud.specs.declared.cloud.CloudError.TheVariants.{Failed, Memory}
+use Rattle.nc_cloud.specs.declared.seats.Seat.{Seat}
+use Rattle.nc_cloud.specs.Contents.{Contents, Store, Rose, Settles, ChangesAt}
+use Rattle.nc_cloud.specs.Fleet.{Shows, got_count, is_bytes, is_chunk, is_done}
+
+abbrev pub answer_from : Result Got CloudError → Answer
+answer_from (Ok (Bytes bytes)) = answer.Bytes bytes
+answer_from (Ok Absent) = answer.Absent
+answer_from (Ok Long) = answer.Long
+answer_from (Err Failed) = answer.Failed
+answer_from (Err Memory) = answer.Memory
+
+abbrev pub done_from : Result (Unit {0}) CloudError → Done
+done_from (Ok x) = done.Ok
+done_from (Err Failed) = done.Failed
+done_from (Err Memory) = done.Memory
+
+-- the ask of a cloud
+abbrev pub ask_at : List Ask → ℕ → Option Ask
+ask_at asks c = find (λ a. nat_eq a.cloud c) asks
+
+-- the job of a cloud
+abbrev pub job_at : List Job → ℕ → Option Job
+job_at jobs c = find (λ j. nat_eq j.cloud c) jobs
+
+abbrev pub clouds_in : {C : Type 0} → List (Seat C) → List C
+clouds_in seats = map (λ s. s.cloud) seats
+
+-- an entry with the answer that stands in its cloud's seat
+abbrev pub collected_ask : {C : Type 0} → List (Seat C) → Ask → Ask
+collected_ask seats a = record a { answer = slice_index_or (map (λ s. s.answer) seats) a.cloud answer.Waiting }
+
+abbrev pub collected_job : {C : Type 0} → List (Seat C) → Job → Job
+collected_job seats j = record j { done = slice_index_or (map (λ s. s.done) seats) j.cloud done.Waiting }
+
+-- what clouds hold, and a count of each
+abbrev pub contents_at : {C : Type 0} → (C → Store) → List C → Contents
+contents_at held clouds = λ c. slice_index_or (map held clouds) c (λ key. None)
+
+abbrev pub count_at : {C : Type 0} → (C → ℕ) → List C → ℕ → ℕ
+count_at count clouds = λ c. slice_index_or (map count clouds) c 0
+
+-- a cloud that served a get, with its answer
+pub record DidGet {C : Type 0} (tells : Type 0) (held : C → Store) (faults : C → ℕ) (counts_exactly : Type 0) (chunk_gets : C → ℕ) (a : Ask) (old new : Seat C) : Type 0 where
+  pub told : tells → Shows new.answer a.most (held old.cloud a.key)
+  pub answered : new.answer ≢ answer.Waiting
+  pub held_stays : held new.cloud ≡ held old.cloud
+  pub failed : new.answer ≡ answer.Failed → Rose (faults old.cloud) (faults new.cloud)
+  pub exact : counts_exactly → new.answer ≢ answer.Failed → faults new.cloud ≡ faults old.cloud
+  pub later : faults old.cloud ≤ faults new.cloud
+  pub gets : chunk_gets new.cloud ≡ got_count (chunk_gets old.cloud) (if is_chunk a.key && is_bytes new.answer then 1 else 0)
+
+-- a cloud that served a put, with its answer
+pub record DidPut {C : Type 0} (tells : Type 0) (held : C → Store) (faults : C → ℕ) (counts_exactly : Type 0) (chunk_gets : C → ℕ) (j : Job) (old new : Seat C) : Type 0 where
+  pub told : tells → ChangesAt j.key (Settles (is_done new.done) (Some j.bytes)) (held old.cloud) (held new.cloud)
+  pub answered : new.done ≢ done.Waiting
+  pub failed : new.done ≡ done.Failed → Rose (faults old.cloud) (faults new.cloud)
+  pub exact : counts_exactly → new.done ≢ done.Failed → faults new.cloud ≡ faults old.cloud
+  pub later : faults old.cloud ≤ faults new.cloud
+  pub gets : chunk_gets new.cloud ≡ chunk_gets old.cloud
+
+-- a seat after a round: without an entry it stays
+abbrev pub Serves : {C X : Type 0} → (X → Seat C → Seat C → Type 0) → Option X → Seat C → Seat C → Type 0
+Serves did None old new = new ≡ old
+Serves did (Some x) old new = did x old new
+
+-- each seat after a round
+pub record AllServed {C : Type 0} (served : ℕ → Seat C → Seat C → Type 0) (old new : List (Seat C)) : Type 0 where
+  pub same_length : length new ≡ length old
+  pub each : (c : ℕ) (d : Seat C) → c < length old → served c (slice_index_or old c d) (slice_index_or new c d)
+
+-- the seats before the n-th have served, the others are as they were
+pub record ServedSoFar {C : Type 0} (n : ℕ) (served : ℕ → Seat C → Seat C → Type 0) (old new : List (Seat C)) : Type 0 where
+  pub same_length : length new ≡ length old
+  pub before : (c : ℕ) (d : Seat C) → c < n → c < length old → served c (slice_index_or old c d) (slice_index_or new c d)
+  pub after : (c : ℕ) (d : Seat C) → n ≤ c → slice_index_or new c d ≡ slice_index_or old c d

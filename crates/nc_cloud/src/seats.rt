@@ -1,0 +1,173 @@
+ghost use Rattle.std.specs.Prelude.{◌≡◌, ◌<◌, ℕ, map, length, find, nat_eq, option_copied, slice_index_or, IfOk, AllPairs, All, ◌≢◌};
+ghost use Rattle.nc_frame.specs.Frames.{Whole};
+ghost use Rattle.nc_cloud.specs.Contents.{Grows, Leaves, Rose};
+ghost use Rattle.nc_cloud.specs.Fleet.{asked, Answers, chunks_got, got_count, places, touches};
+ghost use Rattle.nc_cloud.specs.Seats.{contents_at, count_at, answer_from, AllServed, ask_at, clouds_in, done_from, job_at, collected_ask, collected_job, DidGet, DidPut, Serves};
+
+use crate::cloud::{Cloud, CloudError, Got};
+use crate::fleet::{Answer, Ask, Done, Job};
+use nc_name::Memory;
+use std::alloc::Global;
+use std::mem;
+
+/// A cloud beside a place for its answer.
+#[derive(Drop)]
+pub struct Seat<C> {
+    pub cloud: C,
+    pub answer: Answer,
+    pub done: Done,
+}
+
+/// The ask of a cloud.
+fn ask_of(asks: &[Ask], cloud: usize) -> Option<&Ask>
+    ensures { option_copied result ≡ ask_at asks.now cloud }
+{
+    asks.iter().find(|a| a.cloud as usize == cloud)
+}
+
+/// The job of a cloud.
+fn job_of(jobs: &[Job], cloud: usize) -> Option<&Job>
+    ensures { option_copied result ≡ job_at jobs.now cloud }
+{
+    jobs.iter().find(|j| j.cloud as usize == cloud)
+}
+
+fn answer_by(got: Result<Got, CloudError>) -> Answer
+    ensures { result ≡ answer_from got }
+{
+    match got {
+        Ok(Got::Bytes(bytes)) => Answer::Bytes(bytes),
+        Ok(Got::Absent) => Answer::Absent,
+        Ok(Got::Long) => Answer::Long,
+        Err(CloudError::Failed) => Answer::Failed,
+        Err(CloudError::Memory) => Answer::Memory,
+    }
+}
+
+fn done_by(put: Result<(), CloudError>) -> Done
+    ensures { result ≡ done_from put }
+{
+    match put {
+        Ok(()) => Done::Ok,
+        Err(CloudError::Failed) => Done::Failed,
+        Err(CloudError::Memory) => Done::Memory,
+    }
+}
+
+/// Serves the ask of this cloud, where there is one.
+fn serve_get<C: Cloud>(cloud: usize, seat: &mut Seat<C>, asks: &[Ask])
+    ensures { Serves (DidGet C.tells C.held C.faults C.counts_exactly C.chunk_gets) (ask_at asks.now cloud) seat.old seat.new }
+{
+    match ask_of(asks, cloud) {
+        None => {}
+        Some(ask) => {
+            seat.answer = answer_by(seat.cloud.get(&ask.key, ask.most));
+        }
+    }
+}
+
+/// Does the job of this cloud, where there is one.
+fn serve_put<C: Cloud>(cloud: usize, seat: &mut Seat<C>, jobs: &[Job])
+    requires { All (λ j. Whole j.bytes) jobs.now }
+    ensures { Serves (DidPut C.tells C.held C.faults C.counts_exactly C.chunk_gets) (job_at jobs.now cloud) seat.old seat.new }
+{
+    match job_of(jobs, cloud) {
+        None => {}
+        Some(job) => {
+            seat.done = done_by(seat.cloud.put(&job.key, job.bytes.bytes()));
+        }
+    }
+}
+
+/// Each cloud serves its ask.
+fn serve_gets<C: Cloud>(seats: &mut [Seat<C>], asks: &[Ask])
+    ensures { AllServed (λ c. Serves (DidGet C.tells C.held C.faults C.counts_exactly C.chunk_gets) (ask_at asks.now c)) seats.old seats.new }
+{
+    for cloud in 0..seats.len() {
+        serve_get(cloud, &mut seats[cloud], asks);
+    }
+}
+
+/// Each cloud does its job.
+fn serve_puts<C: Cloud>(seats: &mut [Seat<C>], jobs: &[Job])
+    requires { All (λ j. Whole j.bytes) jobs.now }
+    ensures { AllServed (λ c. Serves (DidPut C.tells C.held C.faults C.counts_exactly C.chunk_gets) (job_at jobs.now c)) seats.old seats.new }
+{
+    for cloud in 0..seats.len() {
+        serve_put(cloud, &mut seats[cloud], jobs);
+    }
+}
+
+/// Takes the answer out of a seat.
+fn taken<C>(seats: &mut [Seat<C>], cloud: usize) -> Answer
+    requires { cloud < length seats.old }
+    ensures answer { result ≡ slice_index_or (map (λ s. s.answer) seats.old) cloud Answer.Waiting }
+    ensures clouds { clouds_in seats.new ≡ clouds_in seats.old }
+    ensures others { (c : ℕ) → c ≢ cloud → slice_index_or (map (λ s. s.answer) seats.new) c Answer.Waiting ≡ slice_index_or (map (λ s. s.answer) seats.old) c Answer.Waiting }
+{
+    mem::replace(&mut seats[cloud].answer, Answer::Waiting)
+}
+
+/// Moves the answers to the asks.
+fn collect_gets<C>(seats: &mut [Seat<C>], asks: &mut [Ask])
+    requires below { All (λ a. a.cloud < length seats.old) asks.old }
+    requires once { AllPairs (λ a b. a.cloud ≢ b.cloud) asks.old }
+    ensures answers { asks.new ≡ map (collected_ask seats.old) asks.old }
+    ensures clouds { clouds_in seats.new ≡ clouds_in seats.old }
+{
+    for i in 0..asks.len() {
+        asks[i].answer = taken(seats, asks[i].cloud as usize);
+    }
+}
+
+/// The answer in a seat.
+fn done_at<C>(seats: &[Seat<C>], cloud: usize) -> Done
+    requires { cloud < length seats.now }
+    ensures { result ≡ slice_index_or (map (λ s. s.done) seats.now) cloud Done.Waiting }
+{
+    seats[cloud].done
+}
+
+/// Copies the answers to the jobs.
+fn collect_puts<C>(seats: &[Seat<C>], jobs: &mut [Job])
+    requires { All (λ j. j.cloud < length seats.now) jobs.old }
+    ensures { jobs.new ≡ map (collected_job seats.now) jobs.old }
+{
+    for job in jobs.iter_mut() {
+        job.done = done_at(seats, job.cloud as usize);
+    }
+}
+
+/// A round of gets: each cloud serves its ask, and then the answers are moved to the asks.
+pub(crate) fn fan_gets<C: Cloud>(seats: &mut [Seat<C>], asks: &mut [Ask])
+    requires below { All (λ a. a.cloud < length seats.old) asks.old }
+    requires once { AllPairs (λ a b. a.cloud ≢ b.cloud) asks.old }
+    ensures entries { map asked asks.new ≡ map asked asks.old }
+    ensures answered { All (λ a. a.answer ≢ Answer.Waiting) asks.new }
+    ensures told { C.tells → All (λ a. Answers a (contents_at C.held (clouds_in seats.old) a.cloud a.key)) asks.new }
+    ensures failed { All (λ a. a.answer ≡ Answer.Failed → Rose (count_at C.faults (clouds_in seats.old) a.cloud) (count_at C.faults (clouds_in seats.new) a.cloud)) asks.new }
+    ensures exact { C.counts_exactly → (c : ℕ) → All (λ a. a.cloud ≡ c → a.answer ≢ Answer.Failed) asks.new → count_at C.faults (clouds_in seats.new) c ≡ count_at C.faults (clouds_in seats.old) c }
+    ensures held { contents_at C.held (clouds_in seats.new) ≡ contents_at C.held (clouds_in seats.old) }
+    ensures grows { Grows (count_at C.faults (clouds_in seats.old)) (count_at C.faults (clouds_in seats.new)) }
+    ensures gets { (c : ℕ) → count_at C.chunk_gets (clouds_in seats.new) c ≡ got_count (count_at C.chunk_gets (clouds_in seats.old) c) (chunks_got c asks.new) }
+{
+    serve_gets(seats, asks);
+    collect_gets(seats, asks);
+}
+
+/// A round of puts: each cloud does its job, and then the answers are copied to the jobs.
+pub(crate) fn fan_puts<C: Cloud>(seats: &mut [Seat<C>], jobs: &mut [Job])
+    requires below { All (λ j. j.cloud < length seats.old) jobs.old }
+    requires once { AllPairs (λ a b. a.cloud ≢ b.cloud) jobs.old }
+    requires whole { All (λ j. Whole j.bytes) jobs.old }
+    ensures entries { places jobs.new ≡ places jobs.old }
+    ensures answered { All (λ j. j.done ≢ Done.Waiting) jobs.new }
+    ensures told { C.tells → Leaves (touches jobs.new) (contents_at C.held (clouds_in seats.old)) (contents_at C.held (clouds_in seats.new)) }
+    ensures failed { All (λ j. j.done ≡ Done.Failed → Rose (count_at C.faults (clouds_in seats.old) j.cloud) (count_at C.faults (clouds_in seats.new) j.cloud)) jobs.new }
+    ensures exact { C.counts_exactly → (c : ℕ) → All (λ j. j.cloud ≡ c → j.done ≢ Done.Failed) jobs.new → count_at C.faults (clouds_in seats.new) c ≡ count_at C.faults (clouds_in seats.old) c }
+    ensures grows { Grows (count_at C.faults (clouds_in seats.old)) (count_at C.faults (clouds_in seats.new)) }
+    ensures gets { count_at C.chunk_gets (clouds_in seats.new) ≡ count_at C.chunk_gets (clouds_in seats.old) }
+{
+    serve_puts(seats, jobs);
+    collect_puts(seats, jobs);
+}

@@ -1,0 +1,96 @@
+ghost use Rattle.nc_name.specs.Keys.{Slots};
+
+use crate::folder::FolderCloud;
+use nc_cloud::{Cloud, CloudError, Got};
+use nc_frame::seal;
+use nc_name::{Key, Name};
+use std::alloc::Global;
+use std::fs;
+use std::test::Fail;
+
+fn meta(name: Name) -> Key
+    ensures { Slots result }
+{
+    Key::Meta { name, slot: 0 }
+}
+
+fn chunk(name: Name) -> Key
+    ensures { Slots result }
+{
+    Key::Chunk {
+        name,
+        slot: 0,
+        row: 0,
+    }
+}
+
+fn gave(got: &Got, bytes: &[u8]) -> bool {
+    match got {
+        Got::Bytes(blob) => blob.bytes() == bytes,
+        _ => false,
+    }
+}
+
+fn failed<T>(answer: &Result<T, CloudError>) -> bool {
+    matches!(answer, Err(CloudError::Failed))
+}
+
+/// How many of the four calls fail.
+fn failures(alloc: Global, folder: &mut FolderCloud, key: &Key) -> Result<u8, Fail>
+    requires { Slots key.now }
+{
+    let bytes = seal(alloc, 0, 4, key, &[4, 4])?;
+    let mut count: u8 = 0;
+    if failed(&folder.get(key, 58)) {
+        count += 1;
+    }
+    if failed(&folder.put(key, bytes.bytes())) {
+        count += 1;
+    }
+    if failed(&folder.delete(key)) {
+        count += 1;
+    }
+    Ok(count)
+}
+
+#[test]
+fn an_object_is_written_read_and_deleted(rt: HostRuntime) -> Result<(), Fail> {
+    fs::create_dir_all(&rt, "scratch_objects")?;
+    let key = chunk(Name::read("a")?);
+    let bytes = seal(rt.alloc(), 0, 4, &key, &[4, 4])?;
+    let mut folder = FolderCloud::open(rt, "scratch_objects")?;
+    assert!(rt; matches!(folder.get(&key, 58)?, Got::Absent));
+    folder.put(&key, bytes.bytes())?;
+    assert!(rt; gave(&folder.get(&key, 58)?, bytes.bytes()));
+    assert!(rt; matches!(folder.get(&key, 57)?, Got::Long));
+    fs::write(&rt, "scratch_objects/notes.txt", "no key")?;
+    assert_eq!(rt; folder.list()?.items().len(), 1);
+    folder.delete(&key)?;
+    folder.delete(&key)?;
+    assert!(rt; matches!(folder.get(&key, 58)?, Got::Absent));
+    fs::remove_dir_all(&rt, "scratch_objects")?;
+    Ok(())
+}
+
+#[test]
+fn what_is_no_plain_file_is_listed_and_fails(rt: HostRuntime) -> Result<(), Fail> {
+    fs::create_dir_all(&rt, "scratch_entries/m-61-0")?;
+    let key = meta(Name::read("a")?);
+    let mut folder = FolderCloud::open(rt, "scratch_entries")?;
+    assert_eq!(rt; folder.list()?.items().len(), 1);
+    assert_eq!(rt; failures(rt.alloc(), &mut folder, &key)?, 3);
+    fs::remove_dir_all(&rt, "scratch_entries")?;
+    Ok(())
+}
+
+#[test]
+fn a_missing_folder_fails(rt: HostRuntime) -> Result<(), Fail> {
+    let key = meta(Name::read("a")?);
+    let mut missing = FolderCloud::open(rt, "scratch_missing")?;
+    assert_eq!(rt; failures(rt.alloc(), &mut missing, &key)?, 3);
+    assert!(rt; failed(&missing.list()));
+    let mut empty = FolderCloud::open(rt, "")?;
+    assert_eq!(rt; failures(rt.alloc(), &mut empty, &key)?, 3);
+    assert!(rt; failed(&empty.list()));
+    Ok(())
+}
