@@ -4,6 +4,7 @@ pub mod FirstMeta
 pub mod Input
 pub mod Look
 pub mod Marks
+pub mod Output
 pub mod Rounds
 pub mod Run
 pub mod Store

@@ -6,6 +6,7 @@ mod input;
 mod look;
 mod marks;
 mod memory;
+mod output;
 mod prepare;
 mod put;
 mod rounds;
