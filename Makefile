@@ -1,0 +1,11 @@
+# Each needs the command `rt` of the Rattle kit; `bench` needs python3 too.
+.PHONY: demo test bench
+
+demo:
+	@bash bench/demo.sh
+
+test:
+	bash .ci/run
+
+bench:
+	@bash bench/put.sh
