@@ -1,4 +1,18 @@
-//! Sealed objects: what stands on a cloud is a frame around its payload, which says where it belongs and shows whether it is whole.
+//! Sealed objects: what stands on a cloud is a frame around its payload, which says where it belongs and shows whether it
+//! is whole. Its parts, in this order:
+//!
+//! | Part | Bytes |
+//! |---|---|
+//! | `NCF1` | 4 |
+//! | cloud | 1 |
+//! | width, the number of clouds | 1 |
+//! | length k of the key | 2 |
+//! | text of the key | k |
+//! | length p of the payload | 8 |
+//! | payload | p |
+//! | SHA-256 of all bytes before it | 32 |
+//!
+//! Numbers stand high byte first.
 #![tactic(auto)]
 
 pub mod laws;

@@ -15,7 +15,7 @@ use Rattle.nc_meta.specs.declared.meta.Live.{Live as LiveMeta}
 use Rattle.nc_meta.specs.declared.meta.Meta.{Meta}
 use Rattle.nc_meta.specs.declared.meta.Meta.TheVariants.{Live, Gone}
 use Rattle.nc_meta.specs.Parts.{each, of_survivors}
-use Rattle.nc_meta.specs.Metas.{AreWitnesses, IsLive, IsMeta, MetasFit, Spells, SpellsLive, gone_spelling, live_spelling, plan_bytes, stored_row, witness_bytes}
+use Rattle.nc_meta.specs.Metas.{AreWitnesses, IsLive, IsMeta, MetasFit, Spells, SpellsLive, gone_spelling, live_spelling, plan_bytes, spelling, stored_row, witness_bytes}
 use Rattle.nc_meta.proofs.Padding.{below_append, below_cons, below_drop, below_take}
 use Rattle.nc_meta.proofs.PlanParts.{length-plans}
 use Rattle.nc_meta.proofs.MetaParts.{gone_shape, live_shape, tail_at}
@@ -95,3 +95,12 @@ metas_fit n wide narrow payload (Gone g) s =
 pub is_meta : (n : ℕ) (payload : List ℕ) (m : Meta) → Spells n payload m → IsMeta n m
 is_meta n payload (Live m) s = s.fits
 is_meta n payload (Gone g) s = s.fits
+
+-- a meta that can be stored has its spelling as payload, and no other
+pub spells_itself : (n : ℕ) (m : Meta) → IsMeta n m → Spells n (spelling n m) m
+spells_itself n (Live m) is = record { fits = is; is_spelling = refl }
+spells_itself n (Gone g) is = record { fits = is; is_spelling = refl }
+
+pub payload_is : (n : ℕ) (payload : List ℕ) (m : Meta) → Spells n payload m → payload ≡ spelling n m
+payload_is n payload (Live m) s = s.is_spelling
+payload_is n payload (Gone g) s = s.is_spelling
