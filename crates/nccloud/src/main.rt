@@ -15,6 +15,8 @@ mod sealing;
 mod sink;
 mod source;
 mod status;
+#[cfg(test)]
+mod tests;
 mod words;
 
 use crate::run::run;

@@ -33,11 +33,6 @@ impl<W: Write + Drop> StdSink<W> {
     pub fn new(inner: W) -> StdSink<W> {
         StdSink { inner, faults: 0 }
     }
-
-    fn fail(&mut self) -> Failed {
-        self.faults = self.faults.saturating_add(1);
-        Failed
-    }
 }
 
 impl<W: Write + Drop> Sink for StdSink<W> {
