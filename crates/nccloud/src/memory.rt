@@ -1,5 +1,5 @@
 //! A source and a sink in memory, which fail at named calls. They serve tests.
-ghost use Rattle.std.specs.Prelude.{◌≡◌, ◌+◌, ◌-◌, ◌^◌, ◌≤◌, ◌<◌, ◌++◌, ◌∷◌, [], ◌↔◌, ℕ, Some, length, take, drop, min, Contains, IsErr, is_ok, if◌then◌else◌, OnOk, OnErr};
+ghost use Rattle.std.specs.Prelude.{◌≡◌, ◌+◌, ◌-◌, ◌^◌, ◌≤◌, ◌<◌, ◌++◌, ◌∷◌, [], ◌↔◌, ℕ, Some, length, take, drop, min, Contains, IsErr, is_ok, if◌then◌else◌, IfOk, OnOk, OnErr};
 ghost use Rattle.std.specs.Io.{ReadsAtMost, WritesAtMost};
 ghost use Rattle.std.specs.Io.KnownBytes.{ReadConsumes, WriteAppends};
 ghost use Rattle.nccloud.specs.Counts.{HasCount, Moves, next};
@@ -95,6 +95,7 @@ impl MemSource {
         ensures calls { self.new.calls.made ≡ self.old.calls.made }
         ensures faults { self.new.calls.faults ≡ self.old.calls.faults }
         ensures left { drop self.new.at self.new.bytes ≡ drop self.old.at self.old.bytes }
+        ensures most { self.new.most ≡ self.old.most }
     {
         self.calls.refuse(nth)
     }
@@ -110,6 +111,11 @@ impl Source for MemSource {
         ensures bytes { ReadConsumes (Some (drop self.old.at self.old.bytes)) (Some (drop self.new.at self.new.bytes)) result buf.new }
         ensures cause { HasCount self.old.calls.faults self.new.calls.faults result }
         ensures exact { IsErr result ↔ Contains self.old.calls.refused.items (next self.old.calls.made) }
+        ensures made { self.new.calls.made ≡ next self.old.calls.made }
+        ensures refused { self.new.calls.refused.items ≡ self.old.calls.refused.items }
+        ensures faults { self.new.calls.faults ≡ (if is_ok result then self.old.calls.faults else next self.old.calls.faults) }
+        ensures most { IfOk result (λ n. n ≤ self.old.most) }
+        ensures same { self.new.most ≡ self.old.most }
     {
         self.calls.begin()?;
         let (_, rest) = self.bytes.bytes().split_at(self.at);
@@ -126,6 +132,7 @@ fn give(buf: &mut [u8], from: &[u8], most: usize) -> usize
     ensures there { result ≤ length from.now }
     ensures given { take result buf.new ≡ take result from.now }
     ensures none { result ≡ 0 → 0 < length buf.old → from.now ≡ [] }
+    ensures most { result ≤ most }
 {
     let n = from.len().min(buf.len()).min(most);
     let (front, _) = from.split_at(n);
@@ -172,6 +179,7 @@ impl MemSink {
         ensures calls { self.new.calls.made ≡ self.old.calls.made }
         ensures faults { self.new.calls.faults ≡ self.old.calls.faults }
         ensures written { self.new.bytes.items ≡ self.old.bytes.items }
+        ensures most { self.new.most ≡ self.old.most }
     {
         self.calls.refuse(nth)
     }
@@ -182,7 +190,18 @@ impl Sink for MemSink {
 
     ghost faults = { λ s. s.calls.faults };
 
-    fn write(&mut self, bytes: &[u8]) -> Result<usize, Failed> {
+    fn write(&mut self, bytes: &[u8]) -> Result<usize, Failed>
+        ensures bound { WritesAtMost result bytes.now }
+        ensures bytes { WriteAppends (Some self.old.bytes.items) (Some self.new.bytes.items) result bytes.now }
+        ensures moves { Moves bytes.now result }
+        ensures cause { HasCount self.old.calls.faults self.new.calls.faults result }
+        ensures fails { Contains self.old.calls.refused.items (next self.old.calls.made) → IsErr result }
+        ensures made { self.new.calls.made ≡ next self.old.calls.made }
+        ensures refused { self.new.calls.refused.items ≡ self.old.calls.refused.items }
+        ensures faults { self.new.calls.faults ≡ (if is_ok result then self.old.calls.faults else next self.old.calls.faults) }
+        ensures most { IfOk result (λ n. n ≤ self.old.most) }
+        ensures same { self.new.most ≡ self.old.most }
+    {
         self.calls.begin()?;
         let n = bytes.len().min(self.most);
         let (front, _) = bytes.split_at(n);

@@ -1,4 +1,4 @@
-ghost use Rattle.std.specs.Prelude.{ℕ, List, Option, None};
+ghost use Rattle.std.specs.Prelude.{◌≡◌, ℕ, List, Option, None};
 ghost use Rattle.std.specs.Io.{WritesAtMost};
 ghost use Rattle.std.specs.Io.KnownBytes.{WriteAppends};
 ghost use Rattle.nccloud.specs.Counts.{HasCount, Moves};
@@ -30,7 +30,10 @@ pub struct StdSink<W: Write + Drop> {
 }
 
 impl<W: Write + Drop> StdSink<W> {
-    pub fn new(inner: W) -> StdSink<W> {
+    pub fn new(inner: W) -> StdSink<W>
+        ensures inner { result.inner ≡ inner }
+        ensures faults { result.faults ≡ 0 }
+    {
         StdSink { inner, faults: 0 }
     }
 }
