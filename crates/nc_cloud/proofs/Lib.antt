@@ -1,9 +1,13 @@
 mod FanGets
 mod FanPuts
 mod Fans
+mod Fates
+mod KeyOrder
 pub mod Numbered
 mod RecordLaws
 pub mod Rounds
 mod SeatLaws
 mod Served
 mod Serves
+mod SortLaws
+mod StoreLaws

@@ -2,7 +2,9 @@ pub mod Cloud
 pub mod Contents
 pub mod Fan
 pub mod Fleet
+pub mod MemCloud
 pub mod Memory
 pub mod Record
 pub mod Rounds
 pub mod Seats
+pub mod Store
