@@ -2,6 +2,8 @@
 #![tactic(auto)]
 
 mod cloud;
+#[cfg(test)]
+mod cloud_tests;
 mod fan;
 mod fleet;
 mod mem_cloud;
