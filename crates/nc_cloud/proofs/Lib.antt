@@ -1,6 +1,8 @@
 mod FanGets
 mod FanPuts
 mod Fans
+mod Fates
+mod KeyOrder
 pub mod Numbered
 mod RecordLaws
 pub mod Rounds
@@ -8,3 +10,5 @@ mod SeatLaws
 mod Served
 mod Serves
 pub mod Images
+mod SortLaws
+mod StoreLaws

@@ -38,7 +38,7 @@ use Rattle.nc_cloud.specs.Memory.{gets_event, puts_event}
 chunk_same : {n m : List ℕ} {s t r q : ℕ} → n ≡ m → s ≡ t → r ≡ q → Chunk n s r ≡ Chunk m t q
 chunk_same a b c = λ i. Chunk (a i) (b i) (c i)
 
-key_eq-Decides : (a b : Key) → Decides (key_eq a b) (a ≡ b)
+pub key_eq-Decides : (a b : Key) → Decides (key_eq a b) (a ≡ b)
 key_eq-Decides (Meta n s) (Meta m t) =
     Decides-like _ (λ p. ap₂ Meta p.0 p.1) (λ e. (cc, cc))
     (Decides-and _ _ (slice_eq-Decides Decides-eqb n m _ refl) (Decides-eqb s t))
@@ -65,7 +65,7 @@ pub held_after_puts : (log : List Event) (steps : List Step) → contents_after 
 held_after_puts log [] = ap (λ es. contents_after es nothing) (append-nil log)
 held_after_puts log (step ∷ steps) = λ i c key. value-more log (Puts (step ∷ steps)) c key None i
 
-whole_some : (bytes : List ℕ) → Whole bytes → 1 ≤ length bytes
+pub whole_some : (bytes : List ℕ) → Whole bytes → 1 ≤ length bytes
 whole_some bytes whole =
     let long : length bytes ≡ 48 + length whole.key + length whole.payload = ap length whole.is_sealed.is_frame ∙ length-frame whole.cloud whole.width whole.key whole.payload in
     omega (arith, long)

@@ -1,4 +1,4 @@
-ghost use Rattle.std.specs.Prelude.{◌≡◌, ◌≤◌, ◌++◌, ◌∷◌, [], ℕ, Some, None, IfOk, OnOk, OnErr, IsErrOf, is_ok};
+ghost use Rattle.std.specs.Prelude.{◌≡◌, ◌≤◌, ◌++◌, ◌∷◌, [], ℕ, Some, None, IfOk, OnOk, OnErr, IsErrOf, is_ok, insert, length};
 ghost use Rattle.nc_frame.specs.Frames.{Whole};
 ghost use Rattle.nc_cloud.specs.Contents.{Store, Rose, Settles, ChangesAt};
 ghost use Rattle.nc_cloud.specs.Cloud.{GetShows, got_after, Lists};
@@ -66,6 +66,18 @@ impl KeyList {
         ensures err { OnErr result (self.new ≡ self.old) }
     {
         match self.keys.push(key) {
+            Ok(()) => Ok(()),
+            Err(_) => Err(Memory),
+        }
+    }
+
+    /// A key more at a place. At `Memory` the list is as it was.
+    pub(crate) fn insert(&mut self, at: usize, key: Key) -> Result<(), Memory>
+        requires { at ≤ length self.old }
+        ensures ok { OnOk result (self.new ≡ insert self.old at key) }
+        ensures err { OnErr result (self.new ≡ self.old) }
+    {
+        match self.keys.insert(at, key) {
             Ok(()) => Ok(()),
             Err(_) => Err(Memory),
         }

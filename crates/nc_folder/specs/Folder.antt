@@ -1,6 +1,11 @@
--- The counts of a folder.
-use Rattle.std.specs.Prelude.{ℕ}
+-- A folder's path and counts.
+use Rattle.std.specs.Prelude.{ℕ, List}
+use Rattle.std.specs.String.{string_bytes}
 use Rattle.nc_folder.specs.declared.folder.FolderCloud.{FolderCloud}
+
+-- the bytes of its path
+abbrev pub path_of : FolderCloud → List ℕ
+path_of folder = string_bytes folder.path
 
 -- how many gets and puts have failed
 abbrev pub faults_of : FolderCloud → ℕ

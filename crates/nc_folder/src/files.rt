@@ -1,4 +1,6 @@
-ghost use Rattle.std.specs.Prelude.{◌≡◌, IsTrue};
+ghost use Rattle.std.specs.Prelude.{◌≡◌, IsSome, IsTrue};
+ghost use Rattle.std.specs.IoError.{raw_os_error};
+ghost use Rattle.nc_folder.specs.declared.files.Trouble.TheVariants.{System, Memory as NoMemory};
 ghost use Rattle.nc_name.specs.Keys.{Slots};
 
 use nc_cloud::{Got, KeyList};
@@ -18,24 +20,32 @@ pub enum Trouble {
 }
 
 impl From<AllocError> for Trouble {
+    ghost from_gives = { λ _ trouble. trouble ≡ NoMemory };
+
     fn from(_: AllocError) -> Self {
         Trouble::Memory
     }
 }
 
 impl<T: Drop> From<AllocFailed<T>> for Trouble {
+    ghost from_gives = { λ _ trouble. trouble ≡ NoMemory };
+
     fn from(_: AllocFailed<T>) -> Self {
         Trouble::Memory
     }
 }
 
 impl From<Memory> for Trouble {
+    ghost from_gives = { λ _ trouble. trouble ≡ NoMemory };
+
     fn from(_: Memory) -> Self {
         Trouble::Memory
     }
 }
 
 impl From<io::Error> for Trouble {
+    ghost from_gives = { λ e trouble. IsSome (raw_os_error e) → trouble ≡ System };
+
     /// The library's own want of memory carries no number of the system.
     fn from(e: io::Error) -> Self {
         if e.raw_os_error().is_none() && e.kind() == ErrorKind::OutOfMemory {

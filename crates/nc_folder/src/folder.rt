@@ -1,7 +1,7 @@
 ghost use Rattle.std.specs.Prelude.{◌≡◌, ◌≢◌, ◌+◌, ◌-◌, ◌^◌, ◌≤◌, Ok, None, min, IfOk};
 ghost use Rattle.nc_cloud.specs.Cloud.{got_after};
 ghost use Rattle.nc_cloud.specs.Contents.{Rose};
-ghost use Rattle.nc_folder.specs.Folder.{chunk_gets_of, faults_of, slips_of};
+ghost use Rattle.nc_folder.specs.Folder.{chunk_gets_of, faults_of, path_of, slips_of};
 ghost use Rattle.nc_cloud.specs.declared.cloud.CloudError.TheVariants.{Failed};
 
 use crate::files;
@@ -45,6 +45,7 @@ fn given_after(count: u64, key: &Key, got: &Got) -> u64
 impl FolderCloud {
     /// The folder at this path. A folder that isn't there makes every call fail, and so does an empty path.
     pub fn open(rt: HostRuntime, path: &str) -> Result<FolderCloud, Memory>
+        ensures path { IfOk result (λ folder. path_of folder ≡ path.now) }
         ensures faults { IfOk result (λ folder. faults_of folder ≡ 0) }
         ensures slips { IfOk result (λ folder. slips_of folder ≡ 0) }
         ensures gets { IfOk result (λ folder. chunk_gets_of folder ≡ 0) }

@@ -1,7 +1,7 @@
 ghost use Rattle.nc_name.specs.Keys.{Slots};
 
 use crate::folder::FolderCloud;
-use nc_cloud::{Cloud, CloudError, Got};
+use nc_cloud::{Cloud, CloudError, Fanned, Fleet, Got};
 use nc_frame::seal;
 use nc_name::{Key, Name};
 use std::alloc::Global;
@@ -92,5 +92,15 @@ fn a_missing_folder_fails(rt: HostRuntime) -> Result<(), Fail> {
     let mut empty = FolderCloud::open(rt, "")?;
     assert_eq!(rt; failures(rt.alloc(), &mut empty, &key)?, 3);
     assert!(rt; failed(&empty.list()));
+    Ok(())
+}
+
+#[test]
+fn folders_stand_side_by_side(rt: HostRuntime) -> Result<(), Fail> {
+    let mut folders = Vec::new(rt.alloc());
+    folders.push(FolderCloud::open(rt, "scratch_a")?)?;
+    folders.push(FolderCloud::open(rt, "scratch_b")?)?;
+    let fleet = Fanned::new(rt, rt.alloc(), folders)?;
+    assert_eq!(rt; fleet.width(), 2);
     Ok(())
 }
