@@ -1,5 +1,5 @@
 //! Mixing: the chunks that the clouds hold are combinations of a file's natives, and a file comes back from combinations.
-//! What is cut into parts for several workers adds up to the same bytes as with one.
+//! The terms of a sum may stand in any order; the bytes are the same.
 #![tactic(auto)]
 
 mod adding;
