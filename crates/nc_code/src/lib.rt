@@ -8,7 +8,7 @@ mod repair;
 mod stripes;
 
 pub use code::{Code, same_code};
-pub use plan::{Plan, Witnesses};
+pub use plan::{Plan, Witnesses, same_plan, same_witnesses};
 pub use repair::{repaired, repairing_twice};
 pub use stripes::striped;
 
@@ -80,5 +80,17 @@ mod tests {
             repaired(&striped(5), 4, witnesses.plan(4)).row(4, 1),
             [0; 16]
         );
+    }
+
+    #[test]
+    fn plans_are_compared(rt: HostRuntime) {
+        let mut one = Witnesses {
+            plans: [Plan::none(); 10],
+        };
+        let other = one;
+        assert!(rt; same_witnesses(&one, &other));
+        one.plans[9] = worked_plan();
+        assert!(rt; !same_witnesses(&one, &other));
+        assert!(rt; !same_plan(&worked_plan(), &Plan::none()));
     }
 }

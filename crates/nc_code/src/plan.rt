@@ -1,4 +1,4 @@
-ghost use Rattle.std.specs.Prelude.{◌≡◌, ◌<◌, ℕ, length, slice_index};
+ghost use Rattle.std.specs.Prelude.{◌≡◌, ◌↔◌, ◌<◌, ℕ, IsTrue, length, slice_index};
 ghost use Rattle.nc_code.specs.Parts.{IsPlan, IsTable, IsRow};
 ghost use Rattle.nc_code.specs.Codes.{no_plan};
 ghost use Rattle.nc_code.specs.Good.{plan_of};
@@ -75,6 +75,39 @@ impl Witnesses {
     {
         &self.plans[lost as usize]
     }
+}
+
+/// Whether two plans are equal.
+pub fn same_plan(a: &Plan, b: &Plan) -> bool
+    ensures { IsTrue result ↔ (a.now ≡ b.now) }
+{
+    same_choice(&a.choice, &b.choice) && same_coefs(&a.coefs, &b.coefs)
+}
+
+/// Whether two lists of plans are equal.
+pub fn same_witnesses(a: &Witnesses, b: &Witnesses) -> bool
+    ensures { IsTrue result ↔ (a.now ≡ b.now) }
+{
+    a.kept();
+    b.kept();
+    for lost in 0..10u8 {
+        if !same_plan(a.plan(lost), b.plan(lost)) {
+            return false;
+        }
+    }
+    true
+}
+
+fn same_choice(a: &[u8; 10], b: &[u8; 10]) -> bool
+    ensures { IsTrue result ↔ (a.now ≡ b.now) }
+{
+    a == b
+}
+
+fn same_coefs(a: &[[u8; 10]; 2], b: &[[u8; 10]; 2]) -> bool
+    ensures { IsTrue result ↔ (a.now ≡ b.now) }
+{
+    a == b
 }
 
 // The functions below compute nothing: they tell what the types of arrays keep, which a proof knows of what is read.

@@ -25,8 +25,10 @@ pub mod laws;
 mod live;
 mod meta;
 mod plans;
+mod same;
 mod tables;
 #[cfg(test)]
 mod tests;
 
 pub use meta::{Live, Meta};
+pub use same::same_meta;

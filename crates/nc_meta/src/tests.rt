@@ -1,6 +1,6 @@
 ghost use Rattle.std.specs.Prelude.{◌≤◌};
 
-use crate::Meta;
+use crate::{Meta, same_meta};
 use nc_name::{Blob, Memory};
 use std::alloc::Global;
 use std::test::Fail;
@@ -151,5 +151,21 @@ fn a_deleted_file(rt: HostRuntime) -> Result<(), Fail> {
     assert_eq!(rt; meta.generation(), 258);
     assert!(rt; Meta::read(4, b"NCM1\x00\x00\x00\x00\x00\x00\x00\x01\x02\x00").is_none());
     assert!(rt; Meta::read(4, b"NCM1\x00\x00\x00\x00\x00\x00\x00\x00\x00").is_none());
+    Ok(())
+}
+
+#[test]
+fn metas_are_compared(rt: HostRuntime) -> Result<(), Fail> {
+    let alloc = rt.alloc();
+    let one = live_payload(alloc, 7, 8, 1, WITNESSES.as_slice())?;
+    let other = live_payload(alloc, 7, 8, 0, WITNESSES.as_slice())?;
+    let bare = live_payload(alloc, 7, 8, 1, &[0])?;
+    let one = Meta::read(4, one.as_slice()).ok_or("not read")?;
+    let other = Meta::read(4, other.as_slice()).ok_or("not read")?;
+    let bare = Meta::read(4, bare.as_slice()).ok_or("not read")?;
+    assert!(rt; same_meta(&one, &one));
+    assert!(rt; !same_meta(&one, &other));
+    assert!(rt; !same_meta(&one, &bare));
+    assert!(rt; !same_meta(&one, &Meta::Gone { generation: 7 }));
     Ok(())
 }

@@ -29,6 +29,17 @@ impl Model for GoodCode {
 }
 
 impl GoodCode {
+    /// The code with witnesses that are proved to be good: nothing is checked. `confirm` checks.
+    pub fn new(code: &Code, witnesses: &Witnesses) -> GoodCode
+        requires { IsGood code.now witnesses.now }
+        ensures { result ≡ record { code = code.now; witnesses = witnesses.now } }
+    {
+        GoodCode {
+            code: *code,
+            witnesses: *witnesses,
+        }
+    }
+
     /// The code. The contract also hands on what the type keeps.
     pub fn code(&self) -> &Code
         ensures code { result.now ≡ self.now.code }
