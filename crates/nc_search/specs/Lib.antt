@@ -1,0 +1,5 @@
+pub mod Stream
+pub mod Tries
+pub mod Starts
+pub mod Repairs
+pub mod Searches
