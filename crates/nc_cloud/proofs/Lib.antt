@@ -10,5 +10,6 @@ mod SeatLaws
 mod Served
 mod Serves
 pub mod Images
+pub mod Decisions
 mod SortLaws
 mod StoreLaws

@@ -8,4 +8,5 @@ pub mod Record
 pub mod Images
 pub mod Rounds
 pub mod Seats
+pub mod Deciding
 pub mod Store

@@ -4,6 +4,7 @@
 mod cloud;
 #[cfg(test)]
 mod cloud_tests;
+mod deciding;
 mod fan;
 mod fleet;
 mod mem_cloud;
@@ -17,6 +18,7 @@ mod store;
 mod tests;
 
 pub use cloud::{Cloud, CloudError, Got, KeyList};
+pub use deciding::{RoundFault, ask_round, write_round, write_row};
 pub use fan::Fanned;
 pub use fleet::{Answer, Ask, Done, Fleet, Job};
 pub use mem_cloud::MemCloud;
