@@ -1,0 +1,5 @@
+pub mod Judgements
+pub mod Views
+pub mod Looks
+pub mod Steps
+pub mod Seen

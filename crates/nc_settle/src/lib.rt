@@ -1,0 +1,16 @@
+//! What the clouds hold of a file's metadata, and what follows from it.
+#![tactic(auto)]
+
+mod asking;
+mod deciding;
+mod judging;
+mod looking;
+mod place;
+#[cfg(test)]
+mod tests;
+mod view;
+
+pub use deciding::{Conflict, Misplaced, Top};
+pub use looking::look;
+pub use place::Place;
+pub use view::View;
