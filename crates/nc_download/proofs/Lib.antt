@@ -1,0 +1,5 @@
+pub mod Judged
+pub mod Sorted
+pub mod ReadLaws
+pub mod FetchLaws
+pub mod GivingLaws

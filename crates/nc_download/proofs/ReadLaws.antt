@@ -1,0 +1,155 @@
+-- What the sorted clouds give.
+use Rattle.std.proofs.Common.{◌≡◌, ◌<◌, ◌≤◌, ◌+◌, ℕ, Option, None, Some, List, [], ◌∷◌, map, length, get_or, refl, sym, ap, ◌∙◌, subst, arith, inl, inr, ◌⊎◌, All, AllPairs}
+use Rattle.std.proofs.lemmas.Bool.{cases_eq}
+use Rattle.std.proofs.lemmas.List.{length-map, get_or-map}
+use Rattle.std.proofs.lemmas.List.Elements.{All-map}
+use Rattle.sha2.specs.Sha256.{sha256}
+use Rattle.nc_name.specs.Keys.{key_text}
+use Rattle.nc_frame.specs.Frames.{Sealed, Whole}
+use Rattle.nc_frame.proofs.Shapes.{same_parts, whole_of}
+use Rattle.nc_native.specs.Native.{chunk_size, combination}
+use Rattle.nc_native.proofs.Pieces.{length-combination}
+use Rattle.nc_code.specs.Codes.{code_row}
+use Rattle.nc_cloud.specs.Contents.{Contents}
+use Rattle.nc_cloud.specs.declared.fleet.Ask.{Ask}
+use Rattle.nc_cloud.specs.Fleet.{Answers}
+use Rattle.nc_meta.specs.declared.meta.Live.{Live}
+use Rattle.nc_mix.specs.declared.pieces.Piece.{Piece}
+use Rattle.nc_mix.specs.Decoding.{IsPieceOf}
+use Rattle.nc_download.specs.declared.judging.Wanted.{Wanted}
+use Rattle.nc_download.specs.declared.short.Bad.{Bad}
+use Rattle.nc_download.specs.declared.short.How.{How}
+use Rattle.nc_download.specs.declared.short.How.TheVariants.{Missing, Broken, Marked}
+use Rattle.nc_download.specs.declared.short.Why.{Why}
+use Rattle.nc_download.specs.declared.short.Why.TheVariants.{Failed, Row}
+use Rattle.nc_download.specs.Chunks.{wanted_of, ChunkIs, HoldsPayload}
+use Rattle.nc_download.specs.Clouds.{AreGoodRows, CauseOf, IsGoodCloud, IsGoodRow}
+use Rattle.nc_download.specs.Reading.{chunk_of, AllButTwoAreRight, AreTooMany, HoldsEnough, IsRightCloud, SoundFor}
+use Rattle.nc_download.specs.Sorting.{AreInOrder, AreSorted}
+
+-- what is whole and right there has no other payload
+only_right : (w : Wanted) (held : Option (List ℕ)) (payload right : List ℕ) → HoldsPayload w held payload
+    → ((bytes : List ℕ) → held ≡ Some bytes → Whole bytes → Sealed bytes w.cloud w.width (key_text w.key) right) → payload ≡ right
+only_right w (Some bytes) payload right holds sound = (same_parts bytes _ _ _ _ _ _ _ _ holds (sound bytes refl (whole_of bytes _ _ _ _ holds))).payload
+only_right w None payload right holds sound = absurd holds
+
+-- all clouds are sorted by what is held
+pub record AreAllSorted (n : ℕ) (name : List ℕ) (m : Live) (F : Contents) (pieces : List Piece) (bads : List Bad) : Type 0 where
+  pub order : AreInOrder n (chunk_size m.len n) n pieces bads
+  pub sorted : AreSorted n name m F n pieces bads
+
+-- the answers of both rounds show what is held
+abbrev pub Sorts : ℕ → List ℕ → Live → List Piece → List Bad → List Ask → List Ask → Type 0
+Sorts n name m pieces bads zeros ones = (F : Contents) → All (λ a. Answers a (F a.cloud a.key)) zeros → All (λ a. Answers a (F a.cloud a.key)) ones → AreSorted n name m F n pieces bads
+
+pub all_sorted : (width n : ℕ) (name : List ℕ) (m : Live) (F G : Contents) (pieces : List Piece) (bads : List Bad) (zeros ones : List Ask) → width ≡ n → G ≡ F
+    → AreInOrder width (chunk_size m.len width) width pieces bads → Sorts width name m pieces bads zeros ones
+    → All (λ a. Answers a (F a.cloud a.key)) zeros → All (λ a. Answers a (G a.cloud a.key)) ones → AreAllSorted n name m F pieces bads
+all_sorted width n name m F G pieces bads zeros ones same held order sorts first second =
+    let Shown : Contents → Type 0 = λ H. All (λ a. Answers a (H a.cloud a.key)) ones in
+    record {
+      order = subst (λ k. AreInOrder k (chunk_size m.len k) k pieces bads) same order;
+      sorted = subst (λ k. AreSorted k name m F k pieces bads) same (sorts F first (subst Shown held second));
+    }
+
+module _ (n : ℕ) (name : List ℕ) (m : Live) (F : Contents) (pieces : List Piece) (bads : List Bad) (all : AreAllSorted n name m F pieces bads) where
+  pub too_many : length pieces + 2 < n → AreTooMany n name m F bads
+  too_many few = record {
+    ascending = all.order.bads_ascending;
+    in_width = all.order.bads_below;
+    caused = all.sorted.caused;
+    others = all.sorted.others;
+    many = omega (arith, all.order.count, all.order.bads_few);
+  }
+
+  abbrev cloud_of : Piece → ℕ
+  cloud_of p = p.cloud
+
+  abbrev none : Piece
+  none = record { cloud = 0; zero = []; one = [] }
+
+  ascending : AllPairs (λ a b. a < b) (map cloud_of pieces)
+  ascending i j d l k =
+      let high : j < length pieces = omega (arith, length-map pieces cloud_of) in
+      let low : i < length pieces = omega arith in
+      let first : get_or (map cloud_of pieces) i d ≡ (get_or pieces i none).cloud = get_or-map cloud_of pieces i none d low in
+      let second : get_or (map cloud_of pieces) j d ≡ (get_or pieces j none).cloud = get_or-map cloud_of pieces j none d high in
+      let less : (get_or pieces i none).cloud < (get_or pieces j none).cloud = all.order.ascending i j none l high in
+      omega arith
+
+  pub enough : 2 ≤ n → n ≤ length pieces + 2 → HoldsEnough n name m F
+  enough wide served = record {
+    clouds = map cloud_of pieces;
+    count = omega (arith, length-map pieces cloud_of, all.order.count);
+    ascending = ascending;
+    in_width = All-map (λ c. c < n) cloud_of pieces all.order.below;
+    good = All-map (IsGoodCloud n name m F) cloud_of pieces (λ k d l. record { zero = (get_or pieces k d).zero; one = (get_or pieces k d).one; rows = all.sorted.good k d l });
+  }
+
+  module _ (v : List ℕ) (sound : SoundFor n name m v F) where
+    right : (r c : ℕ) (payload : List ℕ) → c < n → r < 2 → IsGoodRow n name m F c r payload → payload ≡ chunk_of n m v r c
+    right r c payload l low good = only_right (wanted_of n name m r c) (F c (wanted_of n name m r c).key) payload (chunk_of n m v r c) good.holds (sound.places c r l low).whole
+
+    pub pieces_of : m.code.width ≡ n → All (IsPieceOf m.code v) pieces
+    pieces_of width k d l =
+        let p : Piece = get_or pieces k d in
+        let good : AreGoodRows n name m F p.cloud p.zero p.one = all.sorted.good k d l in
+        let in_width : p.cloud < n = all.order.below k d l in
+        record {
+          zero = right 0 p.cloud p.zero in_width (omega arith) good.first ∙ ap (combination (code_row m.code p.cloud 0) v) (sym width);
+          one = right 1 p.cloud p.one in_width (omega arith) good.second ∙ ap (combination (code_row m.code p.cloud 1) v) (sym width);
+        }
+
+-- what is held has one payload
+same_payload : (w : Wanted) (held : Option (List ℕ)) (p q : List ℕ) → HoldsPayload w held p → HoldsPayload w held q → p ≡ q
+same_payload w (Some bytes) p q first second = (same_parts bytes _ _ _ _ _ _ _ _ first second).payload
+same_payload w None p q first second = absurd first
+
+-- a chunk that has the length and the digest that are wanted isn't bad
+not_bad : (w : Wanted) (held : Option (List ℕ)) (right : List ℕ) → HoldsPayload w held right → length right ≡ w.size → sha256 right ≡ w.mark → (how : How) → ChunkIs w held how → ⊥
+not_bad w held right holds long marked Missing is = absurd (subst (λ h. HoldsPayload w h right) is holds)
+not_bad w held right holds long marked Broken is = is.no_payload right holds long
+not_bad w held right holds long marked Marked is = is.other (ap sha256 (same_payload w held _ _ is.holds holds) ∙ marked)
+
+module _ (n : ℕ) (name : List ℕ) (m : Live) (v : List ℕ) (F : Contents) (long : length v ≡ m.len) where
+  -- a right cloud has no cause
+  right_is_good : (c : ℕ) → IsRightCloud n name m v F c → (why : Why) → CauseOf n name m F c why → ⊥
+  right_is_good c right Failed caused = caused
+  right_is_good c right (Row r how) caused =
+      let size : length (chunk_of n m v r c) ≡ chunk_size m.len n = length-combination (code_row m.code c r) v n ∙ ap (λ k. chunk_size k n) long in
+      not_bad (wanted_of n name m r c) (F c (wanted_of n name m r c).key) (chunk_of n m v r c) (right.holds r caused.pair) size (right.marked r caused.pair) how caused.here
+
+  -- so where all but two are right, three can't be bad
+  module _ (bads : List Bad) (all : AllButTwoAreRight n name m v F) (many : AreTooMany n name m F bads) (d : Bad) where
+    abbrev cloud : ℕ → ℕ
+    cloud k = (get_or bads k d).cloud
+
+    one_of : (k : ℕ) → k < length bads → (cloud k ≡ all.first) ⊎ (cloud k ≡ all.second)
+    one_of k l = elim (cases_eq (cloud k) all.first) [
+      | inl same ↦ inl same
+      | inr other ↦ elim (cases_eq (cloud k) all.second) [
+        | inl same ↦ inr same
+        | inr too ↦ absurd (right_is_good (cloud k) (all.right (cloud k) (many.in_width k d l) other too) (get_or bads k d).why (many.caused k d l))
+      ]
+    ]
+
+    first_less : cloud 0 < cloud 1
+    first_less = many.ascending 0 1 d (omega arith) (omega (arith, many.many))
+
+    second_less : cloud 1 < cloud 2
+    second_less = many.ascending 1 2 d (omega arith) many.many
+
+    three : (cloud 0 ≡ all.first) ⊎ (cloud 0 ≡ all.second) → (cloud 1 ≡ all.first) ⊎ (cloud 1 ≡ all.second) → (cloud 2 ≡ all.first) ⊎ (cloud 2 ≡ all.second) → ⊥
+    three (inl p) (inl q) s = absurd (omega (arith, first_less))
+    three (inr p) (inr q) s = absurd (omega (arith, first_less))
+    three (inl p) (inr q) (inl s) = absurd (omega (arith, first_less, second_less))
+    three (inl p) (inr q) (inr s) = absurd (omega (arith, second_less))
+    three (inr p) (inl q) (inl s) = absurd (omega (arith, second_less))
+    three (inr p) (inl q) (inr s) = absurd (omega (arith, first_less, second_less))
+
+    few_at : ⊥
+    few_at = three (one_of 0 (omega (arith, many.many))) (one_of 1 (omega (arith, many.many))) (one_of 2 many.many)
+
+  pub few_bad : (bads : List Bad) → AllButTwoAreRight n name m v F → AreTooMany n name m F bads → ⊥
+  few_bad [] all many = absurd (omega (arith, many.many))
+  few_bad (b ∷ bs) all many = few_at (b ∷ bs) all many b

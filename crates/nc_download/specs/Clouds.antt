@@ -1,0 +1,52 @@
+-- The clouds that give chunks to a file, and those that don't.
+use Rattle.std.specs.Prelude.{ℕ, ◌≡◌, ◌<◌, Option, Result, Ok, Err, List, length}
+use Rattle.nc_cloud.specs.Contents.{Contents}
+use Rattle.nc_meta.specs.declared.meta.Live.{Live}
+use Rattle.nc_download.specs.declared.short.How.{How}
+use Rattle.nc_download.specs.declared.short.Why.{Why}
+use Rattle.nc_download.specs.declared.short.Why.TheVariants.{Failed, Row}
+use Rattle.nc_download.specs.declared.sorting.Pair.{Pair}
+use Rattle.nc_download.specs.Chunks.{wanted_of, IsGoodChunk, ChunkIs}
+
+-- what cloud c holds where its chunk of row r is to stand
+abbrev pub held_at : ℕ → List ℕ → Live → Contents → ℕ → ℕ → Option (List ℕ)
+held_at n name m F c r = F c (wanted_of n name m r c).key
+
+-- the chunk of row r of cloud c is good, with this payload
+abbrev pub IsGoodRow : ℕ → List ℕ → Live → Contents → ℕ → ℕ → List ℕ → Type 0
+IsGoodRow n name m F c r payload = IsGoodChunk (wanted_of n name m r c) (held_at n name m F c r) payload
+
+-- the chunk of row r of cloud c isn't good
+abbrev pub IsBadRow : ℕ → List ℕ → Live → Contents → ℕ → ℕ → How → Type 0
+IsBadRow n name m F c r how = ChunkIs (wanted_of n name m r c) (held_at n name m F c r) how
+
+-- both chunks of cloud c are good, with these payloads
+pub record AreGoodRows (n : ℕ) (name : List ℕ) (m : Live) (F : Contents) (c : ℕ) (zero one : List ℕ) : Type 0 where
+  pub first : IsGoodRow n name m F c 0 zero
+  pub second : IsGoodRow n name m F c 1 one
+
+-- cloud c is good
+pub record IsGoodCloud (n : ℕ) (name : List ℕ) (m : Live) (F : Contents) (c : ℕ) : Type 0 where
+  pub zero : List ℕ
+  pub one : List ℕ
+  pub rows : AreGoodRows n name m F c zero one
+
+-- the first chunk of cloud c that isn't good is that of row r
+pub record IsFirstBad (n : ℕ) (name : List ℕ) (m : Live) (F : Contents) (c r : ℕ) (how : How) : Type 0 where
+  pub pair : r < 2
+  pub before : (q : ℕ) → q < r → (payload : List ℕ) × IsGoodRow n name m F c q payload
+  pub here : IsBadRow n name m F c r how
+
+-- why cloud c isn't good, where it answered
+abbrev pub CauseOf : ℕ → List ℕ → Live → Contents → ℕ → Why → Type 0
+CauseOf n name m F c Failed = ⊥
+CauseOf n name m F c (Row r how) = IsFirstBad n name m F c r how
+
+abbrev pub IsCloudVerdict : ℕ → List ℕ → Live → Contents → ℕ → Result Pair Why → Type 0
+IsCloudVerdict n name m F c (Ok pair) = AreGoodRows n name m F c pair.zero.now pair.one.now
+IsCloudVerdict n name m F c (Err why) = CauseOf n name m F c why
+
+-- both payloads have so many bytes
+pub record IsPair (size : ℕ) (pair : Pair) : Type 0 where
+  pub zero : length pair.zero.now ≡ size
+  pub one : length pair.one.now ≡ size

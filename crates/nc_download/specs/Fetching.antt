@@ -1,0 +1,69 @@
+-- Which file is shown, and what a fetch answers.
+use Rattle.std.specs.Prelude.{ℕ, ◌≡◌, ◌⊎◌, ◌<◌, List, length, Ok, Err}
+use Rattle.std.specs.declared.result.Result.{Result}
+use Rattle.nc_bytes.specs.Bytes.{AreBytes}
+use Rattle.nc_code.specs.Codes.{IsMds}
+use Rattle.nc_cloud.specs.Contents.{Contents, Rose}
+use Rattle.nc_mds.specs.Verdicts.{IsFirstPair}
+use Rattle.nc_meta.specs.declared.meta.Live.{Live as LiveMeta}
+use Rattle.nc_meta.specs.declared.meta.Meta.TheVariants.{Live, Gone}
+use Rattle.nc_settle.specs.Holding.{NoneSealed, NothingMisplaced, LeastMisplaced, IsHighest, Undisputed, IsDisputed}
+use Rattle.nc_download.specs.Reading.{SoundFor, HoldsEnough, AreTooMany}
+use Rattle.nc_download.specs.declared.short.Bad.{Bad}
+use Rattle.nc_download.specs.declared.fetching.FetchFault.{FetchFault}
+use Rattle.nc_download.specs.declared.fetching.FetchFault.TheVariants as fault
+
+-- the live metadata of the highest generation, where no cloud holds another of that generation
+pub record Shown (n : ℕ) (name : List ℕ) (F : Contents) (m : LiveMeta) : Type 0 where
+  pub highest : IsHighest n name F (Live m)
+  pub undisputed : Undisputed n name F (Live m)
+
+-- the newest metadata says that the file was deleted
+pub record IsDeleted (n : ℕ) (name : List ℕ) (F : Contents) : Type 0 where
+  pub generation : ℕ
+  pub highest : IsHighest n name F (Gone generation)
+  pub undisputed : Undisputed n name F (Gone generation)
+
+-- the file comes back: its code is MDS, enough clouds are good, and it is the one that they were made of
+pub record ComesBack (n : ℕ) (name : List ℕ) (F : Contents) (file : List ℕ) : Type 0 where
+  pub meta : LiveMeta
+  pub shown : Shown n name F meta
+  pub mds : IsMds meta.code
+  pub enough : HoldsEnough n name meta F
+  pub is_file : (v : List ℕ) → AreBytes v → length v ≡ meta.len → SoundFor n name meta v F → file ≡ v
+
+-- the code of the file that is shown isn't MDS, and a, b is the least pair that shows it
+pub record IsUnsound (n : ℕ) (name : List ℕ) (F : Contents) (a b : ℕ) : Type 0 where
+  pub meta : LiveMeta
+  pub shown : Shown n name F meta
+  pub kernel : List ℕ
+  pub first : IsFirstPair meta.code a b kernel
+
+-- too few clouds are good for the file that is shown
+pub record IsShortOf (n : ℕ) (name : List ℕ) (F : Contents) (bads : List Bad) : Type 0 where
+  pub meta : LiveMeta
+  pub shown : Shown n name F meta
+  pub mds : IsMds meta.code
+  pub too_many : AreTooMany n name meta F bads
+
+-- the answer, by what the clouds hold
+abbrev pub Fetches : ℕ → List ℕ → Contents → Result (List ℕ) FetchFault → Type 0
+Fetches n name F (Ok file) = ComesBack n name F file
+Fetches n name F (Err fault.NoFile) = (NoneSealed n name F × NothingMisplaced n name F) ⊎ IsDeleted n name F
+Fetches n name F (Err (fault.Misplaced c a b)) = NoneSealed n name F × LeastMisplaced n name F c a b
+Fetches n name F (Err (fault.Conflict g a b)) = IsDisputed n name F g a b
+Fetches n name F (Err (fault.Unsound a b)) = IsUnsound n name F a b
+Fetches n name F (Err (fault.Short bads)) = IsShortOf n name F bads
+Fetches n name F (Err (fault.Cloud c)) = Unit {0}
+Fetches n name F (Err fault.Memory) = Unit {0}
+
+-- A cloud is named only where its count rose; where counts are exact, it is the least such cloud, and no count rose where none
+-- is named.
+abbrev pub HasFetchCause : Type 0 → ℕ → (ℕ → ℕ) → (ℕ → ℕ) → FetchFault → Type 0
+HasFetchCause exact n before now (fault.Cloud c) = Rose (before c) (now c) × (exact → (d : ℕ) → d < c → d < n → now d ≡ before d)
+HasFetchCause exact n before now fault.Memory = Unit {0}
+HasFetchCause exact n before now fault.NoFile = exact → (c : ℕ) → c < n → now c ≡ before c
+HasFetchCause exact n before now (fault.Short bads) = exact → (c : ℕ) → c < n → now c ≡ before c
+HasFetchCause exact n before now (fault.Conflict g a b) = exact → (c : ℕ) → c < n → now c ≡ before c
+HasFetchCause exact n before now (fault.Misplaced d a b) = exact → (c : ℕ) → c < n → now c ≡ before c
+HasFetchCause exact n before now (fault.Unsound a b) = exact → (c : ℕ) → c < n → now c ≡ before c

@@ -1,0 +1,79 @@
+-- What reading a file answers.
+use Rattle.std.specs.Prelude.{ℕ, ◌≡◌, ◌≢◌, ◌<◌, ◌+◌, ◌*◌, Some, List, [], length, slice_index_or, All, AllPairs}
+use Rattle.sha2.specs.Sha256.{sha256}
+use Rattle.nc_name.specs.Keys.{key_text}
+use Rattle.nc_frame.specs.Frames.{Sealed, Whole}
+use Rattle.nc_native.specs.Native.{combination}
+use Rattle.nc_code.specs.Codes.{code_row}
+use Rattle.nc_meta.specs.declared.meta.Live.{Live}
+use Rattle.nc_cloud.specs.Contents.{Contents}
+use Rattle.nc_download.specs.declared.short.Bad.{Bad}
+use Rattle.nc_cloud.specs.declared.deciding.RoundFault.{RoundFault}
+use Rattle.nc_cloud.specs.declared.deciding.RoundFault.TheVariants as round
+use Rattle.nc_download.specs.declared.reading.ReadFault.{ReadFault}
+use Rattle.nc_download.specs.declared.reading.ReadFault.TheVariants.{Cloud, Short, Memory}
+use Rattle.nc_download.specs.Chunks.{wanted_of, HoldsPayload}
+use Rattle.nc_download.specs.Clouds.{held_at, CauseOf, IsGoodCloud}
+use Rattle.nc_cloud.specs.Deciding.{IsFirstToRise}
+
+-- the chunk of the file v that row r of cloud c gives
+abbrev pub chunk_of : ℕ → Live → List ℕ → ℕ → ℕ → List ℕ
+chunk_of n m v r c = combination (code_row m.code c r) v n
+
+-- where the object of cloud c and row r is whole, it is sealed for its place with the chunk of the file v
+pub record IsSoundPlace (n : ℕ) (name : List ℕ) (m : Live) (v : List ℕ) (F : Contents) (r c : ℕ) : Type 0 where
+  pub whole : (bytes : List ℕ) → held_at n name m F c r ≡ Some bytes → Whole bytes → Sealed bytes c n (key_text (wanted_of n name m r c).key) (chunk_of n m v r c)
+
+-- each place that the metadata names holds the right chunk of the file v, or none, or a broken one
+pub record SoundFor (n : ℕ) (name : List ℕ) (m : Live) (v : List ℕ) (F : Contents) : Type 0 where
+  pub places : (c r : ℕ) → c < n → r < 2 → IsSoundPlace n name m v F r c
+
+-- cloud c holds both right chunks of the file v, and its marks are their digests
+pub record IsRightCloud (n : ℕ) (name : List ℕ) (m : Live) (v : List ℕ) (F : Contents) (c : ℕ) : Type 0 where
+  pub holds : (r : ℕ) → r < 2 → HoldsPayload (wanted_of n name m r c) (held_at n name m F c r) (chunk_of n m v r c)
+  pub marked : (r : ℕ) → r < 2 → sha256 (chunk_of n m v r c) ≡ slice_index_or m.marks (2 * c + r) []
+
+-- all clouds of n but two are right, or more
+pub record AllButTwoAreRight (n : ℕ) (name : List ℕ) (m : Live) (v : List ℕ) (F : Contents) : Type 0 where
+  pub first : ℕ
+  pub second : ℕ
+  pub right : (c : ℕ) → c < n → c ≢ first → c ≢ second → IsRightCloud n name m v F c
+
+-- all clouds of n but two are good, or more
+pub record HoldsEnough (n : ℕ) (name : List ℕ) (m : Live) (F : Contents) : Type 0 where
+  pub clouds : List ℕ
+  pub count : length clouds + 2 ≡ n
+  pub ascending : AllPairs (λ a b. a < b) clouds
+  pub in_width : All (λ c. c < n) clouds
+  pub good : All (IsGoodCloud n name m F) clouds
+
+-- exactly the bad clouds of n, ascending, each with its cause: three or more, so that fewer than n - 2 are good
+pub record AreTooMany (n : ℕ) (name : List ℕ) (m : Live) (F : Contents) (bads : List Bad) : Type 0 where
+  pub ascending : AllPairs (λ a b. a.cloud < b.cloud) bads
+  pub in_width : All (λ b. b.cloud < n) bads
+  pub caused : All (λ b. CauseOf n name m F b.cloud b.why) bads
+  pub others : (c : ℕ) → c < n → All (λ b. b.cloud ≢ c) bads → IsGoodCloud n name m F c
+  pub many : 2 < length bads
+
+-- Short lists the bad clouds
+abbrev pub IsShort : ℕ → List ℕ → Live → Contents → ReadFault → Type 0
+IsShort n name m F (Short bads) = AreTooMany n name m F bads
+IsShort n name m F (Cloud c) = Unit {0}
+IsShort n name m F Memory = Unit {0}
+
+-- the fault isn't Short
+abbrev pub IsNotShort : ReadFault → Type 0
+IsNotShort (Short bads) = ⊥
+IsNotShort (Cloud c) = Unit {0}
+IsNotShort Memory = Unit {0}
+
+-- a round's fault as that of the reading
+abbrev pub IsFaultOf : RoundFault → ReadFault → Type 0
+IsFaultOf (round.Cloud c) fault = fault ≡ Cloud c
+IsFaultOf round.Memory fault = fault ≡ Memory
+
+-- Cloud names the least cloud of a round whose count rose, and where counts are exact, no count rose at Short.
+abbrev pub HasReadCause : Type 0 → (ℕ → ℕ) → (ℕ → ℕ) → ReadFault → Type 0
+HasReadCause exact before now (Cloud c) = IsFirstToRise exact before now c
+HasReadCause exact before now (Short bads) = exact → (c : ℕ) → now c ≡ before c
+HasReadCause exact before now Memory = Unit {0}

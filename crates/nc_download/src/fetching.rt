@@ -1,0 +1,131 @@
+ghost use Rattle.std.specs.Prelude.{◌<◌, ◌≡◌, ◌≤◌, ℕ, List, IfErr, IfOk, OnOk, length};
+ghost use Rattle.nc_cloud.specs.Contents.{Grows};
+ghost use Rattle.nc_download.specs.Fetching.{Fetches, HasFetchCause};
+ghost use Rattle.nc_meta.specs.declared.meta.Live.{Live as LiveMeta};
+ghost use Rattle.nc_download.specs.Giving.{GivesFile, IsHeld};
+ghost use Rattle.nc_download.specs.Showing.{Refuses, RefusesNothing, Shows};
+ghost use Rattle.nc_download.specs.declared.fetching.FetchFault.TheVariants.{Memory as NoMemory};
+
+use crate::reading::{ReadFault, read_file};
+use crate::short::ShortList;
+use nc_cloud::Fleet;
+use nc_mds::{Verdict, check};
+use nc_meta::{Live, Meta};
+use nc_name::{Blob, Memory, Name};
+use nc_settle::{View, look};
+use std::alloc::Global;
+use std::thread::Threads;
+
+/// Why there is no file to give.
+#[derive(Debug, Drop)]
+pub enum FetchFault {
+    /// There is no file of this name: no cloud holds metadata of it, or the newest says that it was deleted.
+    NoFile,
+    /// This is the least cloud that failed in a look or in a round.
+    Cloud(u8),
+    /// Fewer clouds are good than the file comes back from. These are all that aren't, ascending, each with its first cause.
+    Short(ShortList),
+    /// Clouds `a` and `b` hold different metadata of the highest generation.
+    Conflict {
+        generation: u64,
+        a: u8,
+        b: u8,
+    },
+    /// No cloud holds metadata of its own, and this is the least that holds some of another cloud or width.
+    Misplaced {
+        cloud: u8,
+        said_cloud: u8,
+        said_width: u8,
+    },
+    /// The rows of the file's code without clouds `a` and `b` are dependent: the least such pair.
+    Unsound {
+        a: u8,
+        b: u8,
+    },
+    /// No memory was found.
+    Memory,
+}
+
+impl From<Memory> for FetchFault {
+    ghost from_gives = { λ _ fault. fault ≡ NoMemory };
+
+    fn from(_memory: Memory) -> FetchFault {
+        FetchFault::Memory
+    }
+}
+
+/// The file of this name. All clouds are asked for its metadata and for both its chunks. The metadata of the highest
+/// generation counts. A file is given only where every cloud answered.
+pub fn fetch<R: Threads + Sync, F: Fleet>(
+    rt: &R,
+    alloc: Global,
+    fleet: &mut F,
+    name: &Name,
+    workers: u8,
+) -> Result<Blob, FetchFault>
+    requires ready { F.ready }
+    requires wide { 4 ≤ F.clouds fleet.old }
+    requires narrow { F.clouds fleet.old ≤ 10 }
+    requires some_worker { 1 ≤ workers }
+    requires few_workers { workers ≤ 16 }
+    ensures fetches { F.tells → Fetches (F.clouds fleet.old) name.now (F.held fleet.old) result }
+    ensures gives { F.tells → (meta : LiveMeta) (v : List ℕ) → IsHeld (F.clouds fleet.old) name.now meta v (F.held fleet.old) → GivesFile v result }
+    ensures cause { IfErr result (HasFetchCause F.counts_exactly (F.clouds fleet.old) (F.faults fleet.old) (F.faults fleet.new)) }
+    ensures clean { F.counts_exactly → OnOk result ((c : ℕ) → c < F.clouds fleet.old → F.faults fleet.new c ≡ F.faults fleet.old c) }
+    ensures clouds { F.clouds fleet.new ≡ F.clouds fleet.old }
+    ensures held { F.held fleet.new ≡ F.held fleet.old }
+    ensures grows { Grows (F.faults fleet.old) (F.faults fleet.new) }
+{
+    let view = look(alloc, fleet, name)?;
+    let live = match shown(&view) {
+        Ok(live) => live,
+        Err(fault) => return Err(fault),
+    };
+    if let Verdict::Fails { a, b, .. } = check(&live.code) {
+        return Err(FetchFault::Unsound { a, b });
+    }
+    match read_file(rt, alloc, fleet, name, &live, workers) {
+        Ok(file) => Ok(file),
+        Err(ReadFault::Cloud(cloud)) => Err(FetchFault::Cloud(cloud)),
+        Err(ReadFault::Short(bad)) => Err(FetchFault::Short(bad)),
+        Err(ReadFault::Memory) => Err(FetchFault::Memory),
+    }
+}
+
+/// The metadata of the file that a view shows.
+fn shown(view: &View) -> Result<Live, FetchFault>
+    ensures shown { IfOk result (Shows view.now) }
+    ensures fault { IfErr result (Refuses view.now) }
+{
+    if let Some(cloud) = view.failing() {
+        return Err(FetchFault::Cloud(cloud));
+    }
+    let Some(top) = view.top() else {
+        return Err(nothing(view));
+    };
+    if let Some(conflict) = view.conflict() {
+        return Err(FetchFault::Conflict {
+            generation: conflict.generation,
+            a: conflict.a,
+            b: conflict.b,
+        });
+    }
+    match top.meta {
+        Meta::Live(live) => Ok(*live),
+        Meta::Gone { .. } => Err(FetchFault::NoFile),
+    }
+}
+
+/// Why no file is shown where no cloud holds metadata of its own.
+fn nothing(view: &View) -> FetchFault
+    ensures { RefusesNothing view.now result }
+{
+    match view.misplaced() {
+        Some(misplaced) => FetchFault::Misplaced {
+            cloud: misplaced.cloud,
+            said_cloud: misplaced.said_cloud,
+            said_width: misplaced.said_width,
+        },
+        None => FetchFault::NoFile,
+    }
+}
