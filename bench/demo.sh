@@ -8,17 +8,34 @@ trap 'rm -rf "$scratch"' EXIT
 failed=0
 
 echo "Proving and building (the first time takes minutes)."
-(cd crates/nccloud && rt run -- put first </dev/null) >"$scratch/log" 2>&1 || { tail -20 "$scratch/log"; exit 1; }
+(cd crates/nccloud && rt run -- a,b,c,d get </dev/null) >"$scratch/log" 2>&1
+[ -x "$program" ] || { tail -20 "$scratch/log"; exit 1; }
 
-# show WANTED MEANING INPUT WORD..: runs the program on a file with these words.
+# new_clouds N: N new empty folders, and their list in $clouds.
+new_clouds() {
+    local number
+    rm -rf "$scratch"/cloud*
+    clouds=
+    for number in $(seq "$1"); do
+        mkdir "$scratch/cloud$number"
+        clouds=$clouds${clouds:+,}$scratch/cloud$number
+    done
+}
+
+# show WANTED MEANING INPUT WORD..: runs the program over $clouds on a file with these words.
 show() {
     local wanted=$1 meaning=$2 input=$3 status
     shift 3
-    "$program" "$@" <"$input" >"$scratch/out" 2>"$scratch/err"
+    "$program" "$clouds" "$@" <"$input" >"$scratch/out" 2>"$scratch/err"
     status=$?
     printf 'status %-3s %s\n' "$status" "$meaning"
     [ "$status" = "$wanted" ] || { echo "    WRONG: $wanted was wanted"; failed=1; }
-    if [ -s "$scratch/out" ] || [ -s "$scratch/err" ]; then echo "    WRONG: it printed something"; failed=1; fi
+    [ ! -s "$scratch/err" ] || { echo "    WRONG: it printed on standard error"; failed=1; }
+}
+
+# same FILE: whether the last command gave exactly this.
+same() {
+    if cmp -s "$1" "$scratch/out"; then echo "           the output is as it should be"; else echo "    WRONG: other output"; failed=1; fi
 }
 
 big=$(find /usr/lib /usr/bin -type f -size +10M -size -60M -readable 2>/dev/null | sort | head -1)
@@ -26,19 +43,47 @@ big=$(find /usr/lib /usr/bin -type f -size +10M -size -60M -readable 2>/dev/null
 head -c 67108864 /dev/urandom >"$scratch/longest"
 (cat "$scratch/longest"; printf x) >"$scratch/too_long"
 : >"$scratch/empty"
+echo "generation 1" >"$scratch/said"
 size=$(stat -c %s "$big")
 
-show 0 "put of $big, $size bytes: stored on four clouds in memory" "$big" put report
-show 0 "put of no bytes: stored" "$scratch/empty" put empty
-show 0 "put of 64 MiB, the longest file: stored" "$scratch/longest" put longest
+for width in 4 7 10; do
+    new_clouds "$width"
+    show 0 "put of $big, $size bytes, on $width clouds" "$big" put report
+    same "$scratch/said"
+    show 0 "get of it" "$scratch/empty" get report
+    same "$big"
+    [ "$width" != 4 ] || (cd "$scratch" && ls -l cloud? | sed 's/^/           /')
+    rm "$scratch"/cloud1/* "$scratch"/cloud$width/*
+    show 0 "get of it after two clouds lost all their objects" "$scratch/empty" get report
+    same "$big"
+    rm "$scratch"/cloud2/c-*
+    show 5 "get of it after a third one lost its chunks: too few are good" "$scratch/empty" get report
+    same "$scratch/empty"
+done
+new_clouds 4
+show 0 "put of no bytes" "$scratch/empty" put empty
+show 0 "get of them" "$scratch/empty" get empty
+same "$scratch/empty"
+show 20 "put under the same name: it is taken" "$big" put empty
+show 0 "put of 64 MiB, the longest file" "$scratch/longest" put longest
+show 0 "get of it" "$scratch/empty" get longest
+same "$scratch/longest"
 show 7 "put of 64 MiB and one byte: too long, nothing written" "$scratch/too_long" put longer
-show 2 "no words: no command" "$scratch/empty"
-show 2 "get: no command yet" "$scratch/empty" get report
+show 3 "get of it: there is no such file" "$scratch/empty" get longer
+show 8 "put of a folder as input: the read failed" / put folder
+show 2 "no words but the clouds: no command" "$scratch/empty"
 show 2 "put without a name: no command" "$scratch/empty" put
+show 2 "an unknown word: no command" "$scratch/empty" stow empty
 show 2 "put of an empty name: no name" "$scratch/empty" put ""
 show 2 "put of a name with a line feed: no name" "$scratch/empty" put $'a\nb'
 show 2 "put of a name of 101 letters: no name" "$scratch/empty" put "$(printf 'a%.0s' {1..101})"
-show 8 "put of a folder as input: the read failed" / put folder
-ulimit -v 60000
-show 1 "put where 60 MB are all the memory: none was found" "$scratch/empty" put empty
+cp "$scratch"/cloud2/m-656d707479-1 "$scratch"/cloud1/m-656d707479-0
+rm "$scratch"/cloud?/m-656d707479-1
+show 11 "get where the only metadata is that of another cloud" "$scratch/empty" get empty
+rmdir "$scratch/cloud4" 2>/dev/null || rm -r "$scratch/cloud4"
+show 4 "get where a folder is gone: a cloud failed" "$scratch/empty" get longest
+clouds=$scratch/cloud1,$scratch/cloud2,$scratch/cloud3
+show 2 "three clouds: too few" "$scratch/empty" get longest
+new_clouds 4
+(ulimit -v 60000; show 1 "put where 60 MB are all the memory: none was found" "$scratch/empty" put empty; exit $failed) || failed=1
 exit $failed

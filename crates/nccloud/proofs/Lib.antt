@@ -1,7 +1,9 @@
 pub mod InputLemmas
-pub mod RoundLemmas
 pub mod SealingLemmas
-pub mod LookLemmas
 pub mod StoreLaws
 pub mod MetaLemmas
 pub mod PutLemmas
+pub mod WordLaws
+pub mod GetLaws
+pub mod SeeingLaws
+pub mod KeepingLaws

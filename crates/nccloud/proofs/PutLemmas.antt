@@ -8,9 +8,9 @@ use Rattle.nc_cloud.specs.Fleet.{place, places}
 use Rattle.nc_native.specs.Native.{combination}
 use Rattle.nc_code.specs.Codes.{code_row}
 use Rattle.nc_code.specs.Striped.{striped_code}
-use Rattle.nccloud.specs.Rounds.{AreByCloud}
+use Rattle.nc_cloud.specs.Deciding.{AreByCloud}
 use Rattle.nccloud.specs.Store.{IsPrepared, ChangesOnlyName, file_place, meta_place}
-use Rattle.nccloud.proofs.RoundLemmas.{by_cloud_row}
+use Rattle.nc_cloud.proofs.Decisions.{by_cloud_row}
 use Rattle.nccloud.proofs.StoreLaws.{only_name}
 
 -- the same writes at an equal width

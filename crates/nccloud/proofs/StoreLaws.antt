@@ -89,3 +89,8 @@ module _ (n : ℕ) (name v : List ℕ) (first second metas : List Job) (made : I
         ∙ written_out (file_place n name v 1) (λ k. refl) n _ made.second_places G H two c m
         ∙ written_out (file_place n name v 0) (λ k. refl) n _ made.first_places F G one c m;
   }
+
+-- of whichever file they are the rounds
+pub stored_of : (n : ℕ) (first second metas : List Job) (F G H K : Contents) → Written (places first) F G → Written (places second) G H → Written (places metas) H K
+    → (name v : List ℕ) → IsPrepared n name v first second metas → Stores n name v F K
+stored_of n first second metas F G H K one two three name v made = stored n name v first second metas made F G H K one two three

@@ -1,11 +1,13 @@
 pub mod Codes
 pub mod Counts
 pub mod FirstMeta
+pub mod Got
 pub mod Input
-pub mod Look
 pub mod Marks
 pub mod Output
-pub mod Rounds
+pub mod Refusals
 pub mod Run
+pub mod Seeing
+pub mod Status
 pub mod Store
 pub mod Words

@@ -85,3 +85,9 @@ pub record IsPrepared (n : ℕ) (name v : List ℕ) (first second metas : List J
   pub meta_whole : All (λ j. Whole j.bytes) metas
   pub chunk_fits : (c r : ℕ) → c < n → r < 2 → HasFrame c n (key_text (Chunk name 0 r)) (combination (code_row (striped_code n) c r) v n)
   pub meta_fits : (c : ℕ) → c < n → HasFrame c n (key_text (Meta name 1)) payload
+
+-- the writes that store some file
+pub record ArePrepared (n : ℕ) (first second metas : List Job) : Type 0 where
+  pub name : List ℕ
+  pub file : List ℕ
+  pub made : IsPrepared n name file first second metas

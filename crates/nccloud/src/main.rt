@@ -1,15 +1,14 @@
-//! The program: `nccloud put NAME` stores standard input on four clouds in memory.
+//! The program: `nccloud put NAME` stores standard input on clouds that are folders.
 #![tactic(auto)]
 
 mod failed;
+mod get;
 mod input;
-mod look;
 mod marks;
 mod memory;
 mod output;
 mod prepare;
 mod put;
-mod rounds;
 mod run;
 mod sealing;
 mod sink;
@@ -23,11 +22,16 @@ use crate::run::run;
 use crate::sink::StdSink;
 use crate::source::StdSource;
 use crate::status::{Fault, Status};
-use nc_cloud::MemFleet;
+use nc_cloud::Fanned;
+use nc_folder::FolderCloud;
+use nc_name::Memory;
 use std::env;
 use std::io::ErrorKind;
 use std::process::ExitCode;
 use std::rt::Env;
+
+/// The exit code where no memory was found.
+const NO_MEMORY: u8 = 1;
 
 fn main(rt: HostRuntime) -> ExitCode {
     let alloc = rt.alloc();
@@ -35,9 +39,13 @@ fn main(rt: HostRuntime) -> ExitCode {
         Ok(words) => words,
         Err(status) => return ExitCode::from(status.code()),
     };
-    let mut fleet = match MemFleet::new(alloc, 4) {
+    let clouds = match folders(rt, words.as_slice()) {
+        Ok(clouds) => clouds,
+        Err(_) => return ExitCode::from(NO_MEMORY),
+    };
+    let mut fleet = match Fanned::new(rt, alloc, clouds) {
         Ok(fleet) => fleet,
-        Err(_) => return ExitCode::from(1),
+        Err(_) => return ExitCode::from(NO_MEMORY),
     };
     let mut source = StdSource::new(rt.stdin());
     let mut out = StdSink::new(rt.stdout());
@@ -45,13 +53,32 @@ fn main(rt: HostRuntime) -> ExitCode {
     let status = run(
         &rt,
         alloc,
-        &words,
+        after_first(words.as_slice()),
         &mut fleet,
         &mut source,
         &mut out,
         &mut err,
     );
     ExitCode::from(status.code())
+}
+
+/// The clouds of the first word: a folder for each part between its commas. No word is no cloud.
+fn folders(rt: HostRuntime, words: &[String]) -> Result<Vec<FolderCloud>, Memory> {
+    let mut clouds = Vec::new(rt.alloc());
+    if let Some(list) = words.first() {
+        for path in list.as_str().split(',') {
+            clouds.push(FolderCloud::open(rt, path)?)?;
+        }
+    }
+    Ok(clouds)
+}
+
+/// The words after the first.
+fn after_first(words: &[String]) -> &[String] {
+    match words.split_first() {
+        Some((_, rest)) => rest,
+        None => words,
+    }
 }
 
 /// The words of the command line without the program's name. Words that aren't UTF-8 are no command.

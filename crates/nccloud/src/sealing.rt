@@ -7,7 +7,6 @@ ghost use Rattle.nc_cloud.specs.Fleet.{place, places};
 ghost use Rattle.nc_cloud.specs.Rounds.{row};
 ghost use Rattle.nccloud.specs.Store.{sealed_place, chunk_place, meta_place};
 
-use crate::look::meta_key;
 use nc_cloud::{Done, Job};
 use nc_frame::seal;
 use nc_mix::Chunks;
@@ -107,6 +106,16 @@ fn push(jobs: &mut Vec<Job>, job: Job) -> Result<(), Memory>
     match jobs.push(job) {
         Ok(()) => Ok(()),
         Err(_) => Err(Memory),
+    }
+}
+
+/// Where the metadata of a new file stands: that of generation 1, in slot 1.
+fn meta_key(name: &Name) -> Key
+    ensures { result ≡ Key.Meta name.now 1 }
+{
+    Key::Meta {
+        name: *name,
+        slot: 1,
     }
 }
 

@@ -1,14 +1,38 @@
 ghost use Rattle.std.specs.Prelude.{◌≡◌};
-ghost use Rattle.nccloud.specs.Codes.{exit_code};
+ghost use Rattle.nccloud.specs.Codes.{exit_code, fault_code};
+ghost use Rattle.nccloud.specs.Status.{fault_of_fetch, fault_of_round};
 ghost use Rattle.nccloud.specs.declared.status.Fault.TheVariants.{Memory as NoMemory};
 
-use nc_name::Memory;
+use nc_cloud::RoundFault;
+use nc_download::{FetchFault, ShortList};
+use nc_name::{Memory, NameFault};
 
 /// Why a command wasn't done on the clouds.
-#[derive(Clone, Copy, Debug, PartialEq, Eq)]
+#[derive(Debug, Drop)]
 pub enum Fault {
-    /// This cloud failed: the least of the first round in which one did.
+    /// There is no file of this name.
+    NoFile,
+    /// This cloud failed: the least of the first step in which one did.
     Cloud(u8),
+    /// Too few clouds are good. Each that isn't is listed, with its cause.
+    Short(ShortList),
+    /// Clouds `a` and `b` hold different metadata of the highest generation.
+    Conflict {
+        generation: u64,
+        a: u8,
+        b: u8,
+    },
+    /// This cloud holds metadata of another cloud or width.
+    Misplaced {
+        cloud: u8,
+        said_cloud: u8,
+        said_width: u8,
+    },
+    /// The rows of the file's code without clouds `a` and `b` are dependent.
+    Unsound {
+        a: u8,
+        b: u8,
+    },
     /// Some cloud holds metadata of this name.
     Taken,
     /// No memory was found.
@@ -16,16 +40,22 @@ pub enum Fault {
 }
 
 /// How a run ended.
-#[derive(Clone, Copy, Debug, PartialEq, Eq)]
+#[derive(Debug, Drop)]
 pub enum Status {
     /// The command was done.
     Ok,
-    /// The words are no command, or there are not four clouds.
+    /// There are not 4 to 10 clouds.
+    Width(usize),
+    /// The words are no command with exactly its arguments.
     Usage,
+    /// The words are a command, but the name isn't one.
+    Name(NameFault),
     /// The input is longer than 64 MiB.
     TooLong,
     /// The input failed before its end.
     ReadFault,
+    /// The output failed. The command was done.
+    WriteFault,
     /// The command wasn't done on the clouds.
     Vault(Fault),
 }
@@ -37,12 +67,26 @@ impl Status {
     {
         match self {
             Status::Ok => 0,
-            Status::Vault(Fault::Memory) => 1,
-            Status::Usage => 2,
-            Status::Vault(Fault::Cloud(_)) => 4,
+            Status::Width(_) | Status::Usage | Status::Name(_) => 2,
             Status::TooLong => 7,
             Status::ReadFault => 8,
-            Status::Vault(Fault::Taken) => 20,
+            Status::WriteFault => 9,
+            Status::Vault(fault) => fault.code(),
+        }
+    }
+}
+
+impl Fault {
+    fn code(&self) -> u8
+        ensures { result ≡ fault_code self.now }
+    {
+        match self {
+            Fault::Memory => 1,
+            Fault::NoFile => 3,
+            Fault::Cloud(_) => 4,
+            Fault::Short(_) => 5,
+            Fault::Conflict { .. } | Fault::Misplaced { .. } | Fault::Unsound { .. } => 11,
+            Fault::Taken => 20,
         }
     }
 }
@@ -52,5 +96,40 @@ impl From<Memory> for Fault {
 
     fn from(_memory: Memory) -> Fault {
         Fault::Memory
+    }
+}
+
+impl From<RoundFault> for Fault {
+    ghost from_gives = { λ round fault. fault ≡ fault_of_round round };
+
+    fn from(fault: RoundFault) -> Fault {
+        match fault {
+            RoundFault::Cloud(cloud) => Fault::Cloud(cloud),
+            RoundFault::Memory => Fault::Memory,
+        }
+    }
+}
+
+impl From<FetchFault> for Fault {
+    ghost from_gives = { λ fetch fault. fault ≡ fault_of_fetch fetch };
+
+    fn from(fault: FetchFault) -> Fault {
+        match fault {
+            FetchFault::NoFile => Fault::NoFile,
+            FetchFault::Cloud(cloud) => Fault::Cloud(cloud),
+            FetchFault::Short(list) => Fault::Short(list),
+            FetchFault::Conflict { generation, a, b } => Fault::Conflict { generation, a, b },
+            FetchFault::Misplaced {
+                cloud,
+                said_cloud,
+                said_width,
+            } => Fault::Misplaced {
+                cloud,
+                said_cloud,
+                said_width,
+            },
+            FetchFault::Unsound { a, b } => Fault::Unsound { a, b },
+            FetchFault::Memory => Fault::Memory,
+        }
     }
 }

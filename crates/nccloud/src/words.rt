@@ -1,5 +1,6 @@
 ghost use Rattle.std.specs.Prelude.{◌≡◌, ◌≢◌, ℕ, List, [], ◌∷◌, map, IfSome, IfNone, IfOk, IfErr, string_bytes};
-ghost use Rattle.nccloud.specs.Words.{Asks, RefusesWords};
+ghost use Rattle.nc_name.specs.Names.{IsName};
+ghost use Rattle.nccloud.specs.Words.{Asks, RefusesText, RefusesWords};
 
 use nc_name::{Name, NameFault};
 
@@ -8,6 +9,8 @@ use nc_name::{Name, NameFault};
 pub enum Command {
     /// `put NAME`: the input becomes this file.
     Put(Name),
+    /// `get NAME`: this file becomes the output.
+    Get(Name),
 }
 
 /// Why the words ask for nothing.
@@ -27,15 +30,25 @@ pub fn read_words(words: &[String]) -> Result<Command, WordFault>
     match two_words(words) {
         Some((command, text)) => {
             if command == "put" {
-                match Name::read(text) {
-                    Ok(name) => Ok(Command::Put(name)),
-                    Err(fault) => Err(WordFault::Name(fault)),
-                }
+                Ok(Command::Put(name_in(text)?))
+            } else if command == "get" {
+                Ok(Command::Get(name_in(text)?))
             } else {
                 Err(WordFault::Usage)
             }
         }
         None => Err(WordFault::Usage),
+    }
+}
+
+/// The name that a command is about.
+fn name_in(text: &str) -> Result<Name, WordFault>
+    ensures name { IfOk result (λ name. (name ≡ text.now) × IsName text.now) }
+    ensures fault { IfErr result (RefusesText text.now) }
+{
+    match Name::read(text) {
+        Ok(name) => Ok(name),
+        Err(fault) => Err(WordFault::Name(fault)),
     }
 }
 
