@@ -1,5 +1,6 @@
 -- When a run is answered by how it is used.
-use Rattle.std.proofs.Common.{◌≡◌, ℕ, List, inl, inr, subst, ◌↔◌}
+use Rattle.std.proofs.Common.{◌≡◌, ℕ, List, [], slice_index_or, inl, inr, sym, ap, ◌∙◌, subst, ◌↔◌}
+use Rattle.nc_name.specs.Names.{IsName}
 use Rattle.nc_name.specs.declared.name.NameFault.{NameFault}
 use Rattle.nccloud.specs.declared.status.Status.{Status}
 use Rattle.nccloud.specs.declared.status.Status.TheVariants.{Usage, Name}
@@ -24,3 +25,12 @@ pub named_usage : (words : List (List ℕ)) (Wide : Type 0) (fault : WordFault) 
 named_usage words Wide fault cause told refuses is =
     let bad : HasBadName words cause = subst (λ (f : WordFault). RefusesWords words f) is refuses in
     (λ same. cc, λ none. absurd (none.1 bad.0 bad.1))
+
+-- the argument of a command is its second word
+argument_is : (words : List (List ℕ)) (text : List ℕ) → IsCommandOf words text → slice_index_or words 1 [] ≡ text
+argument_is words text (inl put) = ap (λ (ws : List (List ℕ)). slice_index_or ws 1 []) put
+argument_is words text (inr get) = ap (λ (ws : List (List ℕ)). slice_index_or ws 1 []) get
+
+-- what a command is about is a name
+pub asked_name : (words : List (List ℕ)) (command : Command) → Asks words command → (text : List ℕ) → IsCommandOf words text → IsName text
+asked_name words command asks text is = subst (λ (t : List ℕ). IsName t) (sym (argument_is words (target command) (is_command words command asks)) ∙ argument_is words text is) asks.1

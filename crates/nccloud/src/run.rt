@@ -1,6 +1,7 @@
 //! The program without its edges.
 ghost use Rattle.std.specs.Prelude.{◌≡◌, ◌↔◌, ◌≤◌, ℕ, List, map, string_bytes, IsTrue};
 ghost use Rattle.std.specs.Io.KnownBytes.{Appends};
+ghost use Rattle.nc_name.specs.Names.{IsName};
 ghost use Rattle.nc_name.specs.declared.name.NameFault.{NameFault as NameCause};
 ghost use Rattle.nc_cloud.specs.Contents.{Rose};
 ghost use Rattle.nccloud.specs.Got.{GetAnswers, GivesHeld};
@@ -40,6 +41,7 @@ pub fn run<R: Threads + Sync, F: Fleet, S: Source, K: Sink, E: Sink>(
     ensures width { (w : ℕ) → (result ≡ Status.Width w) ↔ ((w ≡ F.clouds fleet.old) × (IsWide w → ⊥)) }
     ensures usage { (result ≡ Status.Usage) ↔ (IsWide (F.clouds fleet.old) × ((text : List ℕ) → IsCommandOf (map string_bytes words.now) text → ⊥)) }
     ensures name { (cause : NameCause) → result ≡ Status.Name cause → IsWide (F.clouds fleet.old) × HasBadName (map string_bytes words.now) cause }
+    ensures named { IsBegun result → (text : List ℕ) → IsCommandOf (map string_bytes words.now) text → IsName text }
     ensures read { result ≡ Status.ReadFault → Rose (S.faults source.old) (S.faults source.new) }
     ensures early { IsEarly result → fleet.new ≡ fleet.old }
 
