@@ -1,3 +1,4 @@
 pub mod Laws
 pub mod Verdicts
 pub mod Others
+pub mod Relations

@@ -4,6 +4,7 @@
 mod checking;
 mod laws;
 mod pairs;
+mod relations;
 mod verdict;
 
 pub use checking::check;
