@@ -96,6 +96,35 @@ fn a_missing_folder_fails(rt: HostRuntime) -> Result<(), Fail> {
 }
 
 #[test]
+fn a_file_in_the_place_of_a_folder_fails(rt: HostRuntime) -> Result<(), Fail> {
+    fs::write(&rt, "scratch_file", "no folder")?;
+    let key = meta(Name::read("a")?);
+    let mut folder = FolderCloud::open(rt, "scratch_file")?;
+    assert_eq!(rt; failures(rt.alloc(), &mut folder, &key)?, 3);
+    assert!(rt; failed(&folder.list()));
+    fs::remove_file(&rt, "scratch_file")?;
+    Ok(())
+}
+
+#[test]
+fn a_changed_file_is_given_as_it_is(rt: HostRuntime) -> Result<(), Fail> {
+    fs::create_dir_all(&rt, "scratch_changed")?;
+    let key = chunk(Name::read("a")?);
+    let frame = seal(rt.alloc(), 0, 4, &key, &[4, 4])?;
+    let mut folder = FolderCloud::open(rt, "scratch_changed")?;
+    folder.put(&key, frame.bytes())?;
+    fs::write(&rt, "scratch_changed/c-61-0-0", "NCF1")?;
+    assert!(rt; gave(&folder.get(&key, 58)?, b"NCF1"));
+    fs::write(&rt, "scratch_changed/c-61-0-0", "")?;
+    assert!(rt; gave(&folder.get(&key, 58)?, b""));
+    fs::write(&rt, "scratch_changed/c-61-0-0", [7; 59].as_slice())?;
+    assert!(rt; matches!(folder.get(&key, 58)?, Got::Long));
+    assert_eq!(rt; folder.list()?.items().len(), 1);
+    fs::remove_dir_all(&rt, "scratch_changed")?;
+    Ok(())
+}
+
+#[test]
 fn folders_stand_side_by_side(rt: HostRuntime) -> Result<(), Fail> {
     let mut folders = Vec::new(rt.alloc());
     folders.push(FolderCloud::open(rt, "scratch_a")?)?;

@@ -13,8 +13,20 @@ fn live_payload(
     slot: u8,
     tail: &[u8],
 ) -> Result<Vec<u8>, Memory> {
+    payload_of_kind(alloc, 1, generation, len, slot, tail)
+}
+
+fn payload_of_kind(
+    alloc: Global,
+    kind: u8,
+    generation: u64,
+    len: u64,
+    slot: u8,
+    tail: &[u8],
+) -> Result<Vec<u8>, Memory> {
     let mut bytes = Vec::new(alloc);
-    bytes.extend_from_slice(b"NCM1\x01")?;
+    bytes.extend_from_slice(b"NCM1")?;
+    bytes.push(kind)?;
     bytes.extend_from_slice(&generation.to_be_bytes())?;
     bytes.extend_from_slice(&len.to_be_bytes())?;
     for i in 0..32u8 {
@@ -114,6 +126,35 @@ fn what_is_out_of_range_is_not_read(rt: HostRuntime) -> Result<(), Fail> {
     Ok(())
 }
 
+#[test]
+fn another_kind_is_not_read(rt: HostRuntime) -> Result<(), Fail> {
+    let alloc = rt.alloc();
+    for (kind, is_read) in [(0, false), (1, true), (2, false), (255, false)] {
+        let payload = payload_of_kind(alloc, kind, 7, 8, 1, &WITNESSES)?;
+        assert_eq!(rt;
+            Meta::read(4, payload.as_slice()).is_some(),
+            is_read,
+            "kind {kind}"
+        );
+    }
+    Ok(())
+}
+
+#[test]
+fn a_choice_of_2_is_not_read(rt: HostRuntime) -> Result<(), Fail> {
+    let alloc = rt.alloc();
+    let mut first = WITNESSES;
+    first[1] = 2;
+    let mut last = WITNESSES;
+    last[30] = 2;
+    let mut factor = WITNESSES;
+    factor[4] = 2;
+    assert!(rt; Meta::read(4, live_payload(alloc, 7, 8, 1, &first)?.as_slice()).is_none());
+    assert!(rt; Meta::read(4, live_payload(alloc, 7, 8, 1, &last)?.as_slice()).is_none());
+    assert!(rt; Meta::read(4, live_payload(alloc, 7, 8, 1, &factor)?.as_slice()).is_some());
+    Ok(())
+}
+
 /// A live payload at width 10 whose rows, slots and marks are 0.
 fn wide_payload(alloc: Global, flag: u8, plan_bytes: u16) -> Result<Vec<u8>, Memory> {
     let mut bytes = Vec::new(alloc);
@@ -146,10 +187,13 @@ fn payloads_of_ten_clouds(rt: HostRuntime) -> Result<(), Fail> {
 fn a_deleted_file(rt: HostRuntime) -> Result<(), Fail> {
     let payload = b"NCM1\x00\x00\x00\x00\x00\x00\x00\x01\x02";
     let blob = written_again(rt.alloc(), 4, payload)?.ok_or("not read")?;
+    assert_eq!(rt; blob.bytes().len(), 13);
     assert_eq!(rt; blob.bytes(), payload.as_slice());
     let meta = Meta::read(4, payload).ok_or("not read")?;
     assert_eq!(rt; meta.generation(), 258);
     assert!(rt; Meta::read(4, b"NCM1\x00\x00\x00\x00\x00\x00\x00\x01\x02\x00").is_none());
+    assert!(rt; Meta::read(4, b"NCM1\x00\x00\x00\x00\x00\x00\x00\x01").is_none());
+    assert!(rt; Meta::read(4, b"NCM1\x02\x00\x00\x00\x00\x00\x00\x01\x02").is_none());
     assert!(rt; Meta::read(4, b"NCM1\x00\x00\x00\x00\x00\x00\x00\x00\x00").is_none());
     Ok(())
 }

@@ -1,4 +1,6 @@
-ghost use Rattle.std.specs.Prelude.{◌≡◌, IfOk};
+ghost use Rattle.std.specs.Prelude.{◌≡◌, ◌+◌, ◌*◌, ◌<◌, ◌≤◌, length, IfOk};
+ghost use Rattle.std.specs.List.{All};
+ghost use Rattle.nc_native.specs.Native.{chunk_size};
 ghost use Rattle.nc_mix.specs.Decoding.{IsLong};
 
 use crate::decoding::{decode_with, first_rows, square_of};
@@ -6,7 +8,7 @@ use crate::{Open, Piece, encode};
 use nc_code::{Code, striped};
 use nc_matrix::{Outcome, invert};
 use nc_name::{Blob, Memory};
-use nc_native::cut;
+use nc_native::{chunk_size, cut};
 use std::alloc::Global;
 use std::test::Fail;
 use std::thread::Threads;
@@ -68,40 +70,153 @@ fn one_byte_at_width_ten(rt: HostRuntime) -> Result<(), Fail> {
     Ok(())
 }
 
-/// A piece of chunks of two bytes.
-fn piece(alloc: Global, cloud: u8, zero: &[u8; 2], one: &[u8; 2]) -> Result<Piece, Memory>
+/// The piece of a cloud, whose chunks have `size` bytes.
+fn piece(alloc: Global, cloud: u8, zero: &[u8], one: &[u8], size: usize) -> Result<Piece, Fail>
     ensures cloud { IfOk result (λ x. x.cloud ≡ cloud) }
-    ensures long { IfOk result (IsLong 2) }
+    ensures long { IfOk result (IsLong size) }
 {
+    if zero.len() != size {
+        return Err(Fail::from("row 0 has another size"));
+    }
+    if one.len() != size {
+        return Err(Fail::from("row 1 has another size"));
+    }
     let zero = Blob::from_slice(alloc, zero)?;
     let one = Blob::from_slice(alloc, one)?;
     Ok(Piece { cloud, zero, one })
 }
 
+/// The pieces of all clouds but `a` and `b`.
+fn pieces_without(
+    alloc: Global,
+    chunks: &[Blob],
+    width: u8,
+    size: usize,
+    a: u8,
+    b: u8,
+) -> Result<Vec<Piece>, Fail>
+    requires { length chunks.now ≡ 2 * width }
+    ensures in_width { IfOk result (λ v. All (λ x. x.cloud < width) v.items) }
+    ensures long { IfOk result (λ v. All (IsLong size) v.items) }
+{
+    let mut pieces = Vec::new(alloc);
+    for cloud in 0..width {
+        if cloud != a {
+            if cloud != b {
+                let zero = chunks[2 * cloud as usize].bytes();
+                let one = chunks[2 * cloud as usize + 1].bytes();
+                pieces.push(piece(alloc, cloud, zero, one, size)?)?;
+            }
+        }
+    }
+    Ok(pieces)
+}
+
+/// What the pieces decode to, where their rows can be inverted. (`decode` itself asks that the code be MDS, which is proved
+/// in another crate.)
+fn decoded<R: Threads + Sync>(
+    rt: &R,
+    alloc: Global,
+    pieces: &[Piece],
+    code: &Code,
+    len: u64,
+) -> Result<Option<Blob>, Memory>
+    requires count { length pieces.now + 2 ≡ code.now.width }
+    requires in_width { All (λ x. x.cloud < code.now.width) pieces.now }
+    requires long { All (IsLong (chunk_size len code.now.width)) pieces.now }
+{
+    let size = chunk_size(len, code.width()) as usize;
+    match invert(&square_of(pieces, code)) {
+        Outcome::Inverse(inverse) => {
+            let rows = first_rows(&inverse.cells, inverse.size as usize);
+            let file = decode_with(rt, alloc, pieces, rows, size, len as usize, 1, &Open)?;
+            Ok(Some(file))
+        }
+        Outcome::Kernel(_) => Ok(None),
+    }
+}
+
+/// Whether the file comes back without the clouds `a` and `b`.
+fn comes_back<R: Threads + Sync>(
+    rt: &R,
+    alloc: Global,
+    chunks: &[Blob],
+    code: &Code,
+    file: &[u8],
+    a: u8,
+    b: u8,
+) -> Result<bool, Fail>
+    requires { length chunks.now ≡ 2 * code.now.width }
+{
+    let width = code.width();
+    let len = file.len() as u64;
+    let size = chunk_size(len, width) as usize;
+    let pieces = pieces_without(alloc, chunks, width, size, a, b)?;
+    if pieces.len() + 2 != width as usize {
+        return Err(Fail::from("not all but two clouds"));
+    }
+    match decoded(rt, alloc, &pieces, code, len)? {
+        Some(found) => Ok(found.bytes() == file),
+        None => Ok(false),
+    }
+}
+
+/// The bytes 0 to 250 again and again.
+fn file_of(alloc: Global, len: u32) -> Result<Vec<u8>, Memory> {
+    let mut file = Vec::new(alloc);
+    for i in 0..len {
+        file.push((i % 251) as u8)?;
+    }
+    Ok(file)
+}
+
+/// How many pairs of clouds may be lost of a file's striped chunks.
+fn pairs_to_lose<R: Threads + Sync>(rt: &R, alloc: Global, width: u8, len: u32) -> Result<u8, Fail>
+    requires wide { 4 ≤ width }
+    requires narrow { width ≤ 10 }
+{
+    let file = file_of(alloc, len)?;
+    let code = striped(width);
+    let natives = cut(alloc, &file, width)?;
+    let chunks = encode(rt, alloc, &natives, &code, 1, &Open)?;
+    let mut count: u8 = 0;
+    for b in 1..width {
+        for a in 0..b {
+            if comes_back(rt, alloc, chunks.items(), &code, &file, a, b)? {
+                count = count.saturating_add(1);
+            }
+        }
+    }
+    Ok(count)
+}
+
+#[test]
+fn each_pair_of_clouds_may_be_lost(rt: HostRuntime) -> Result<(), Fail> {
+    for len in [0u32, 1, 8, 100_003] {
+        assert_eq!(rt; pairs_to_lose(&rt, rt.alloc(), 4, len)?, 6, "{len} bytes");
+        assert_eq!(rt; pairs_to_lose(&rt, rt.alloc(), 7, len)?, 21, "{len} bytes");
+        assert_eq!(rt; pairs_to_lose(&rt, rt.alloc(), 10, len)?, 45, "{len} bytes");
+    }
+    Ok(())
+}
+
 #[test]
 fn any_two_clouds_give_the_file(rt: HostRuntime) -> Result<(), Fail> {
-    let held = [
+    let held: [([u8; 2], [u8; 2]); 4] = [
         (*b"ab", *b"cd"),
         (*b"ef", *b"gh"),
         ([0x04, 0x04], [0x04, 0x0C]),
         ([0xAB, 0xAE], [0xAD, 0xB4]),
     ];
     let code = striped(4);
-    assert_eq!(rt; code.width(), 4);
     for (a, b) in [(0u8, 1u8), (0, 2), (0, 3), (1, 2), (1, 3), (2, 3)] {
         let (first, second) = (held[a as usize], held[b as usize]);
         let pieces = [
-            piece(rt.alloc(), a, &first.0, &first.1)?,
-            piece(rt.alloc(), b, &second.0, &second.1)?,
+            piece(rt.alloc(), a, &first.0, &first.1, 2)?,
+            piece(rt.alloc(), b, &second.0, &second.1, 2)?,
         ];
-        match invert(&square_of(&pieces, &code)) {
-            Outcome::Inverse(inverse) => {
-                let rows = first_rows(&inverse.cells, 4);
-                let file = decode_with(&rt, rt.alloc(), &pieces, rows, 2, 8, 1, &Open)?;
-                assert_eq!(rt; file.bytes(), b"abcdefgh".as_slice());
-            }
-            Outcome::Kernel(_) => assert!(rt; false, "the code is MDS"),
-        }
+        let file = decoded(&rt, rt.alloc(), &pieces, &code, 8)?.ok_or("not MDS")?;
+        assert_eq!(rt; file.bytes(), b"abcdefgh".as_slice());
     }
     Ok(())
 }

@@ -1,125 +1,334 @@
 //! The searches beside a plain filter, and beside what another program drew with the same keys.
 
-ghost use Rattle.std.specs.Prelude.{◌≡◌, ◌*◌, ◌+◌, ◌<◌, ◌≤◌, ℕ, [], length, slice_index, slice_index_or, IfSome};
+ghost use Rattle.std.specs.Prelude.{◌≡◌, ◌*◌, ◌<◌, ◌≤◌, ℕ, [], slice_index, slice_index_or, IfSome};
 ghost use Rattle.nc_code.specs.Codes.{IsBare};
 ghost use Rattle.nc_gf256.specs.Width.{native_count};
-ghost use Rattle.nc_search.specs.Tries.{tries_len};
-ghost use Rattle.nc_search.specs.Starts.{rows_len, start_len};
 
 use super::*;
 use crate::drawing::fill;
-use nc_bytes::part_of;
-use nc_code::{Code, Plan, Witnesses, same_code, striped};
+use nc_code::{Code, Plan, Witnesses, repaired, same_code, striped};
 use nc_mds::{Verdict, check};
 use nc_name::Name;
-use nc_nextloss::{GoodCode, first_witness};
+use nc_nextloss::GoodCode;
 use rand_chacha::ChaCha20Rng;
 use rand_core::{Rng, SeedableRng};
 use std::process::Abort;
 use std::test::Fail;
 
-// ---- a plain filter
+// ---- a plain filter: it judges all candidates, and has nothing from the search but the check of a code
 
-// A row of a code: the first bytes of these.
-fn plain_row(natives: usize, bytes: &[u8]) -> [u8; 16]
+// A good candidate: the plan of the repair, the code, and a plan for each loss.
+#[derive(Clone, Copy)]
+struct Good {
+    plan: Plan,
+    code: Code,
+    witnesses: Witnesses,
+}
+
+fn is_mds(code: &Code) -> bool {
+    matches!(check(code), Verdict::Mds)
+}
+
+// The byte at a place.
+fn byte(stream: &[u8], at: usize) -> u8 {
+    if at < stream.len() { stream[at] } else { 0 }
+}
+
+fn plain_row(natives: usize, stream: &[u8], at: usize) -> [u8; 16]
     requires short { natives ≤ 16 }
-    requires long { natives ≤ length bytes.now }
     ensures { (k : ℕ) → natives ≤ k → slice_index result k ≡ 0 }
 {
     let mut row = [0; 16];
     for k in 0..natives {
-        row[k] = bytes[k];
+        row[k] = byte(stream, at.saturating_add(k));
     }
     row
 }
 
-// The code whose rows these bytes begin with.
-fn plain_code(width: u8, block: &[u8]) -> Code
+fn plain_code(width: u8, stream: &[u8], at: usize) -> Code
     requires wide { 4 ≤ width }
     requires narrow { width ≤ 10 }
-    requires long { rows_len width ≤ length block.now }
     ensures { result.width ≡ width }
 {
     let natives = 2 * (width as usize - 2);
     let mut rows = [[0; 16]; 20];
+    let mut here = at;
     for i in 0..2 * width as usize {
-        rows[i] = plain_row(natives, part_of(block, i * natives, natives));
+        rows[i] = plain_row(natives, stream, here);
+        here = here.saturating_add(natives);
     }
     Code::new(width, &rows)
 }
 
-// The first of sixteen tries that is a witness.
-fn plain_try(code: &Code, lost: u8, block: &[u8], at: usize, each: usize) -> Option<Plan>
-    requires lost { lost < code.now.width }
-    requires each { each ≡ tries_len code.now.width }
-    requires long { at + each ≤ length block.now }
-{
-    first_witness(code, lost, &[0; 10], part_of(block, at, each))
-}
-
-// A block as a candidate, where it is good.
-fn plain(width: u8, block: &[u8]) -> Option<(Code, Witnesses)>
-    requires wide { 4 ≤ width }
+// The choices of the base, the one of the survivor at this position turned over.
+fn plain_choices(width: u8, lost: u8, base: &[u8; 10], turned: u8) -> [u8; 10]
     requires narrow { width ≤ 10 }
-    requires long { start_len width ≤ length block.now }
+    ensures { (t : ℕ) → slice_index result t < 2 }
 {
-    let code = plain_code(width, block);
-    match check(&code) {
-        Verdict::Mds => {}
-        Verdict::Fails { .. } => return None,
-    }
-    let n = width as usize;
-    let each = 16 * (2 * n - 1);
-    let mut plans = [Plan::none(); 10];
-    for lost in 0..n {
-        let at = 2 * (n - 2) * (2 * n) + lost * each;
-        match plain_try(&code, lost as u8, block, at, each) {
-            Some(plan) => plans[lost] = plan,
-            None => return None,
+    let mut choice = [0; 10];
+    let mut position: u8 = 0;
+    for t in 0..width {
+        if t != lost {
+            choice[t as usize] = u8::from((base[t as usize] == 1) != (position == turned));
+            position = position.saturating_add(1);
         }
     }
-    Some((code, Witnesses { plans }))
+    choice
 }
 
-// The first good one of the blocks of a stream that are each so long.
-fn filter(width: u8, key: &[u8; 32], budget: u16, each: usize) -> Option<(u16, Code, Witnesses)>
+fn plain_factors(width: u8, lost: u8, stream: &[u8], at: usize) -> [u8; 10]
+    requires narrow { width ≤ 10 }
+{
+    let mut row = [0; 10];
+    let mut here = at;
+    for t in 0..width {
+        if t != lost {
+            row[t as usize] = byte(stream, here);
+            here = here.saturating_add(1);
+        }
+    }
+    row
+}
+
+fn plain_plan(width: u8, lost: u8, base: &[u8; 10], stream: &[u8], at: usize) -> Plan
+    requires narrow { width ≤ 10 }
+{
+    let choice = plain_choices(width, lost, base, byte(stream, at) % 16);
+    let zero = plain_factors(width, lost, stream, at.saturating_add(1));
+    let one = plain_factors(width, lost, stream, at.saturating_add(width as usize));
+    Plan::new(&choice, &[zero, one])
+}
+
+// The bytes of a plan.
+fn plan_bytes(width: u8) -> usize
     requires wide { 4 ≤ width }
     requires narrow { width ≤ 10 }
-    requires few { budget ≤ 8 }
-    requires long { start_len width ≤ each }
-    requires short { each ≤ 3360 }
 {
-    let mut stream = [0; 26880];
+    2 * width as usize - 1
+}
+
+// The first of sixteen tries that is a witness.
+fn plain_try(code: &Code, lost: u8, base: &[u8; 10], stream: &[u8], at: usize) -> Option<Plan>
+    requires lost { lost < code.now.width }
+{
+    let width = code.width();
+    let mut here = at;
+    for _ in 0..16u8 {
+        let plan = plain_plan(width, lost, base, stream, here);
+        if is_mds(&repaired(code, lost, &plan)) {
+            return Some(plan);
+        }
+        here = here.saturating_add(plan_bytes(width));
+    }
+    None
+}
+
+// The bytes of the tries for one loss.
+fn tries_bytes(width: u8) -> usize
+    requires wide { 4 ≤ width }
+    requires narrow { width ≤ 10 }
+{
+    16 * (2 * width as usize - 1)
+}
+
+// A plan for each loss: for cloud `own` this plan, for each other one the first try that is a witness.
+fn plain_witnesses(
+    code: &Code,
+    base: &[u8; 10],
+    own: u8,
+    plan: &Plan,
+    stream: &[u8],
+    at: usize,
+) -> Option<Witnesses> {
+    let width = code.width();
+    let mut plans = [Plan::none(); 10];
+    let mut here = at;
+    for lost in 0..width {
+        if lost == own {
+            plans[lost as usize] = *plan;
+        } else {
+            match plain_try(code, lost, base, stream, here) {
+                Some(found) => plans[lost as usize] = found,
+                None => return None,
+            }
+            here = here.saturating_add(tries_bytes(width));
+        }
+    }
+    Some(Witnesses { plans })
+}
+
+fn plain_start(width: u8, stream: &[u8], at: usize) -> Option<Good>
+    requires wide { 4 ≤ width }
+    requires narrow { width ≤ 10 }
+{
+    let code = plain_code(width, stream, at);
+    if !is_mds(&code) {
+        return None;
+    }
+    let plan = Plan::none();
+    let rows = 2 * width as usize * (2 * (width as usize - 2));
+    let tries = at.saturating_add(rows);
+    match plain_witnesses(&code, &[0; 10], 255, &plan, stream, tries) {
+        Some(witnesses) => Some(Good {
+            plan,
+            code,
+            witnesses,
+        }),
+        None => None,
+    }
+}
+
+// The choices turned over, but for the lost cloud's.
+fn plain_turned(lost: u8, plan: &Plan) -> [u8; 10] {
+    let mut base = [0; 10];
+    for t in 0..10u8 {
+        if t != lost {
+            base[t as usize] = u8::from(plan.choice[t as usize] == 0);
+        }
+    }
+    base
+}
+
+fn plain_repair(code: &Code, lost: u8, plan: &Plan, stream: &[u8], at: usize) -> Option<Good>
+    requires lost { lost < code.now.width }
+{
+    let width = code.width();
+    let again = repaired(code, lost, plan);
+    if !is_mds(&again) {
+        return None;
+    }
+    let base = plain_turned(lost, plan);
+    let tries = at.saturating_add(plan_bytes(width));
+    match plain_witnesses(&again, &base, lost, plan, stream, tries) {
+        Some(witnesses) => Some(Good {
+            plan: *plan,
+            code: again,
+            witnesses,
+        }),
+        None => None,
+    }
+}
+
+// The plan of a candidate for a repair, whose block begins at this place.
+fn plain_repair_plan(
+    width: u8,
+    stored: Option<&Plan>,
+    lost: u8,
+    index: u16,
+    stream: &[u8],
+    at: usize,
+) -> Plan
+    requires narrow { width ≤ 10 }
+{
+    match stored {
+        None => plain_plan(width, lost, &[0; 10], stream, at),
+        Some(plan) => {
+            if index == 0 {
+                *plan
+            } else {
+                plain_plan(width, lost, &plan.choice, stream, at)
+            }
+        }
+    }
+}
+
+// So many bytes of a key's stream, from its beginning on.
+fn draw(key: &[u8; 32], stream: &mut [u8]) {
     let mut rng = ChaCha20Rng::from_seed(*key);
-    rng.fill_bytes(&mut stream);
-    for i in 0..budget {
-        match plain(width, part_of(&stream, i as usize * each, each)) {
-            Some(found) => return Some((i, found.0, found.1)),
-            None => {}
+    rng.fill_bytes(stream);
+}
+
+// All candidates for a new code, each where it is good. Their blocks take 480 bytes at width 4, and 3360 at width 10.
+fn plain_starts(width: u8, key: &[u8; 32], budget: u16, block: usize) -> [Option<Good>; 16]
+    requires wide { 4 ≤ width }
+    requires narrow { width ≤ 10 }
+    requires few { budget ≤ 16 }
+{
+    let mut stream = [0; 53760];
+    draw(key, &mut stream);
+    let mut list = [None; 16];
+    let mut at: usize = 0;
+    for index in 0..budget {
+        list[index as usize] = plain_start(width, &stream, at);
+        at = at.saturating_add(block);
+    }
+    list
+}
+
+// All candidates for a repair, each where it is good. Their blocks take 343 bytes at width 4, and 2755 at width 10; each
+// begins at a whole word, which is a byte later.
+fn plain_repairs(
+    code: &Code,
+    stored: Option<&Plan>,
+    lost: u8,
+    key: &[u8; 32],
+    budget: u16,
+    block: usize,
+) -> [Option<Good>; 16]
+    requires lost { lost < code.now.width }
+    requires few { budget ≤ 16 }
+{
+    let width = code.width();
+    let mut stream = [0; 53760];
+    draw(key, &mut stream);
+    let mut list = [None; 16];
+    let mut at: usize = 0;
+    for index in 0..budget {
+        let plan = plain_repair_plan(width, stored, lost, index, &stream, at);
+        list[index as usize] = plain_repair(code, lost, &plan, &stream, at);
+        at = at.saturating_add(block);
+    }
+    list
+}
+
+fn first_good(list: &[Option<Good>; 16]) -> Option<(u16, Good)> {
+    for index in 0..16u16 {
+        if let Some(good) = list[index as usize] {
+            return Some((index, good));
         }
     }
     None
 }
 
-// The search finds what the filter finds.
-fn agree(rt: &impl Abort, width: u8, key: &[u8; 32], budget: u16, each: usize)
+// The search for a new code finds what the filter finds.
+fn starts_agree(rt: &impl Abort, width: u8, key: &[u8; 32], budget: u16, block: usize)
     requires wide { 4 ≤ width }
     requires narrow { width ≤ 10 }
-    requires few { budget ≤ 8 }
-    requires long { start_len width ≤ each }
-    requires short { each ≤ 3360 }
+    requires few { budget ≤ 16 }
 {
+    let wanted = first_good(&plain_starts(width, key, budget, block));
     match find_start(width, key, budget) {
         Start::Spent(tried) => {
             assert_eq!(rt; tried, budget);
-            assert!(rt; filter(width, key, budget, each).is_none());
+            assert!(rt; wanted.is_none());
         }
-        Start::Found { index, good } => match filter(width, key, budget, each) {
+        Start::Found { index, good } => match wanted {
             None => panic!(rt; "the filter finds none"),
-            Some(found) => {
-                assert_eq!(rt; index, found.0);
-                assert!(rt; same_code(good.code(), &found.1));
-                same_plans(rt, good.witnesses(), &found.2);
+            Some((first, wanted)) => {
+                assert_eq!(rt; index, first);
+                assert!(rt; same_code(good.code(), &wanted.code));
+                same_plans(rt, good.witnesses(), &wanted.witnesses);
+            }
+        },
+    }
+}
+
+// The search for a repair of cloud 7 of ten finds what the filter finds.
+fn repairs_agree(rt: &impl Abort, code: &Code, stored: Option<&Plan>, key: &[u8; 32])
+    requires width { code.now.width ≡ 10 }
+    requires bare { IfSome stored (λ plan. IsBare 10 7 plan.now) }
+{
+    let wanted = first_good(&plain_repairs(code, stored, 7, key, 4, 2756));
+    match find_repair(code, stored, 7, key, 4) {
+        Mend::Spent(_) => panic!(rt; "the search finds none"),
+        Mend::Found { index, plan, good } => match wanted {
+            None => panic!(rt; "the filter finds none"),
+            Some((first, wanted)) => {
+                assert_eq!(rt; index, first);
+                assert_eq!(rt; plan.choice, wanted.plan.choice);
+                assert_eq!(rt; plan.coefs, wanted.plan.coefs);
+                assert!(rt; same_code(good.code(), &wanted.code));
+                same_plans(rt, good.witnesses(), &wanted.witnesses);
             }
         },
     }
@@ -136,10 +345,28 @@ fn same_plans(rt: &impl Abort, a: &Witnesses, b: &Witnesses) {
 fn a_search_finds_what_a_plain_filter_finds(rt: HostRuntime) {
     for fill in [22u8, 14, 19] {
         for budget in [1u16, 8] {
-            agree(&rt, 4, &[fill; 32], budget, 480);
-            agree(&rt, 10, &[fill; 32], budget, 3360);
+            starts_agree(&rt, 4, &[fill; 32], budget, 480);
+            starts_agree(&rt, 10, &[fill; 32], budget, 3360);
         }
     }
+}
+
+#[test]
+fn a_repair_is_what_a_plain_filter_finds(rt: HostRuntime) -> Result<(), Fail> {
+    let (code, stored) = ten_clouds().ok_or("no code")?;
+    for fill in [42u8, 48] {
+        repairs_agree(&rt, &code, None, &[fill; 32]);
+        repairs_agree(&rt, &code, Some(&stored), &[fill; 32]);
+    }
+    let striped = striped(4);
+    assert!(rt; first_good(&plain_repairs(&striped, None, 1, &[0; 32], 16, 344)).is_none());
+    assert!(rt;
+        matches!(
+            find_repair(&striped, None, 1, &[0; 32], 16),
+            Mend::Spent(16)
+        )
+    );
+    Ok(())
 }
 
 // ---- what another program drew
