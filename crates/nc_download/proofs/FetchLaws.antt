@@ -56,7 +56,8 @@ module _ (n : ℕ) (v : Places) (width : HasWidth n v) (exact : Type 0) (before 
   refused_cause (Unsound a b) is = absurd is
   refused_cause Memory is = absurd is
 
-rose_more : (a b c : ℕ) → a ≤ b → Rose b c → Rose a c
+-- counts that grew and then rose have risen
+pub rose_more : (a b c : ℕ) → a ≤ b → Rose b c → Rose a c
 rose_more a b c low rose = omega (arith, low, rose)
 
 -- a cloud that failed after a look in which none did

@@ -1,13 +1,10 @@
 -- Where the clouds hold a file, it comes back.
-use Rattle.std.proofs.Common.{◌≡◌, ◌⊎◌, ◌<◌, ◌≤◌, ℕ, List, inl, inr, sym, ap, ◌∙◌, subst, arith, Ok, Err}
+use Rattle.std.proofs.Common.{◌≡◌, ◌<◌, ◌≤◌, ℕ, List, inl, inr, sym, ap, ◌∙◌, subst, arith, Ok, Err}
 use Rattle.std.proofs.lemmas.Bool.{cases_eq}
 use Rattle.std.specs.declared.result.Result.{Result}
-use Rattle.nc_code.specs.Parts.{CodeParts}
 use Rattle.nc_code.specs.Codes.{IsMds}
-use Rattle.nc_code.specs.Striped.{striped_code}
 use Rattle.nc_cloud.specs.Contents.{Contents}
 use Rattle.nc_mds.proofs.Shown.{first_not_mds}
-use Rattle.nc_mds.proofs.StripedMds.{striped_mds}
 use Rattle.nc_meta.specs.declared.meta.Meta.{Meta}
 use Rattle.nc_meta.specs.declared.meta.Meta.TheVariants.{Live, Gone}
 use Rattle.nc_meta.specs.declared.meta.Live.{Live as LiveMeta}
@@ -34,10 +31,6 @@ gone_is_not_live : (generation : ℕ) (m : LiveMeta) → Gone generation ≡ Liv
 gone_is_not_live generation m same = subst (λ (o : Meta). IsGone o) same tt
 
 module _ (n : ℕ) (name : List ℕ) (m : LiveMeta) (v : List ℕ) (F : Contents) (wide : 4 ≤ n) (narrow : n ≤ 10) (is : IsHeld n name m v F) where
-  is_mds : (m.code ≡ striped_code n) ⊎ IsMds m.code → IsMds m.code
-  is_mds (inl striped) = subst (λ (code : CodeParts). IsMds code) (sym striped) (striped_mds n wide narrow)
-  is_mds (inr mds) = mds
-
   -- of three clouds one is neither of two, so some cloud holds it
   some_cloud : ((c : ℕ) → c < n → HoldsMeta n name F c (Live m) → ⊥) → ⊥
   some_cloud none = elim (cases_eq 0 is.first) [
@@ -68,6 +61,6 @@ module _ (n : ℕ) (name : List ℕ) (m : LiveMeta) (v : List ℕ) (F : Contents
   gives (Err NoFile) (inr gone) = gone_is_not_live gone.generation m (is.only gone.highest.cloud (Gone gone.generation) gone.highest.in_width gone.highest.holds)
   gives (Err (Misplaced c a b)) told = some_cloud (λ d l holds. told.0.none d (Live m) l holds)
   gives (Err (Conflict g a b)) told = told.differ (is.only b told.other told.b_in_width told.b_holds ∙ sym (is.only a told.meta told.a_in_width told.a_holds))
-  gives (Err (Unsound a b)) told = first_not_mds told.meta.code a b told.kernel told.first (subst (λ (k : LiveMeta). IsMds k.code) (sym (shown_is told.meta told.shown)) (is_mds is.mds))
+  gives (Err (Unsound a b)) told = first_not_mds told.meta.code a b told.kernel told.first (subst (λ (k : LiveMeta). IsMds k.code) (sym (shown_is told.meta told.shown)) is.mds)
   gives (Err (Short bads)) told =
       few_bad n name m v F is.long bads (record { first = is.first; second = is.second; right = is.right }) (subst (λ (k : LiveMeta). AreTooMany n name k F bads) (shown_is told.meta told.shown) told.too_many)

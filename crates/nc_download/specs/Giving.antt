@@ -1,9 +1,8 @@
 -- When a file comes back.
-use Rattle.std.specs.Prelude.{ℕ, ◌≡◌, ◌≢◌, ◌⊎◌, ◌<◌, List, length, Ok, Err}
+use Rattle.std.specs.Prelude.{ℕ, ◌≡◌, ◌≢◌, ◌<◌, List, length, Ok, Err}
 use Rattle.std.specs.declared.result.Result.{Result}
 use Rattle.nc_bytes.specs.Bytes.{AreBytes}
 use Rattle.nc_code.specs.Codes.{IsMds}
-use Rattle.nc_code.specs.Striped.{striped_code}
 use Rattle.nc_cloud.specs.Contents.{Contents}
 use Rattle.nc_meta.specs.declared.meta.Meta.{Meta}
 use Rattle.nc_meta.specs.declared.meta.Meta.TheVariants.{Live}
@@ -13,12 +12,11 @@ use Rattle.nc_download.specs.Reading.{IsRightCloud, SoundFor}
 use Rattle.nc_download.specs.declared.fetching.FetchFault.{FetchFault}
 use Rattle.nc_download.specs.declared.fetching.FetchFault.TheVariants as fault
 
--- The clouds hold the file v by the metadata m: each metadata that a cloud holds is m, all clouds of n but two hold it and are
--- right for v, its code is the striped one, which put takes, or is MDS, and every other chunk place that it names is right, absent
--- or broken.
+-- The clouds hold the file v by the metadata m: each metadata that a cloud holds is m, whose code is MDS; all clouds of n but two
+-- hold it and are right for v; and every other chunk place that it names is right, absent or broken.
 pub record IsHeld (n : ℕ) (name : List ℕ) (m : LiveMeta) (v : List ℕ) (F : Contents) : Type 0 where
   pub only : (c : ℕ) (o : Meta) → c < n → HoldsMeta n name F c o → o ≡ Live m
-  pub mds : (m.code ≡ striped_code n) ⊎ IsMds m.code
+  pub mds : IsMds m.code
   pub bytes : AreBytes v
   pub long : length v ≡ m.len
   pub first : ℕ
