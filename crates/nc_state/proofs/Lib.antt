@@ -1,0 +1,17 @@
+pub mod CloudSets
+pub mod Wholes
+pub mod Held
+pub mod Keeping
+pub mod Weighs
+pub mod EmptyLaw
+pub mod LossLaw
+pub mod Rounds
+pub mod RestingLaw
+pub mod MetaWrites
+pub mod MetaLaws
+pub mod TopLaw
+pub mod Images
+pub mod AfterLaws
+pub mod ChunkLaws
+pub mod VaultLaws
+pub mod CommandLaws

@@ -1,0 +1,79 @@
+-- Which metas clouds hold.
+use Rattle.std.specs.Prelude.{ℕ, ◌≡◌, ◌<◌, ◌≤◌, ◌%◌, Bool, true, false, Option, None, Some, List}
+use Rattle.std.specs.Str.{bytes_eq}
+use Rattle.nc_name.specs.declared.key.Key.{Key}
+use Rattle.nc_name.specs.declared.key.Key.TheVariants as key
+use Rattle.nc_name.specs.Keys.{key_text}
+use Rattle.nc_frame.specs.Frames.{Sealed, frame}
+use Rattle.nc_meta.specs.declared.meta.Meta.{Meta}
+use Rattle.nc_meta.specs.Metas.{IsMeta, Spells, generation_of, spelling}
+use Rattle.nc_cloud.specs.Contents.{Contents}
+use Rattle.nc_state.specs.Clouds.{Clouds}
+use Rattle.nc_state.specs.Versions.{Version, meta_of, version_generation}
+
+-- the key of a meta: its generation says in which slot it stands
+abbrev pub meta_key : List ℕ → Meta → Key
+meta_key name m = key.Meta name (generation_of m % 2)
+
+-- the object that a meta is on cloud c of n
+unfoldable pub meta_object : ℕ → List ℕ → ℕ → Meta → List ℕ
+meta_object n name c m = frame c n (key_text (meta_key name m)) (spelling n m)
+
+-- cloud c of n holds this meta of the name
+pub record Holds (n : ℕ) (F : Contents) (name : List ℕ) (c : ℕ) (m : Meta) : Type 0 where
+  pub is_meta : IsMeta n m
+  pub stands : F c (meta_key name m) ≡ Some (meta_object n name c m)
+
+-- what stands under the key of the meta is a frame of this cloud, width and key, and its payload is that of the meta
+pub record HoldsSealed (n : ℕ) (F : Contents) (name : List ℕ) (c : ℕ) (m : Meta) : Type 0 where
+  pub bytes : List ℕ
+  pub payload : List ℕ
+  pub stands : F c (meta_key name m) ≡ Some bytes
+  pub is_sealed : Sealed bytes c n (key_text (meta_key name m)) payload
+  pub spells : Spells n payload m
+
+-- cloud c holds this meta, where there is one
+abbrev pub HoldsMeta : ℕ → Contents → List ℕ → ℕ → Option Meta → Type 0
+HoldsMeta n F name c None = Unit {0}
+HoldsMeta n F name c (Some m) = Holds n F name c m
+
+-- cloud c holds the version's meta, where it has one
+abbrev pub HoldsVersion : ℕ → Contents → List ℕ → ℕ → Version → Type 0
+HoldsVersion n F name c x = HoldsMeta n F name c (meta_of x)
+
+-- all clouds do
+abbrev pub AllHold : ℕ → Contents → List ℕ → Version → Type 0
+AllHold n F name x = (c : ℕ) → c < n → HoldsVersion n F name c x
+
+-- all clouds outside D do
+abbrev pub HeldOutside : ℕ → Contents → Clouds → List ℕ → Version → Type 0
+HeldOutside n F D name x = (c : ℕ) → c < n → D c ≡ false → HoldsVersion n F name c x
+
+-- no cloud holds a meta of a generation above g
+abbrev pub NoneAbove : ℕ → Contents → List ℕ → ℕ → Type 0
+NoneAbove n F name g = (c : ℕ) (m : Meta) → c < n → Holds n F name c m → generation_of m ≤ g
+
+-- each meta of the version's generation that a cloud holds is the version's
+abbrev pub OneMeta : ℕ → Contents → List ℕ → Version → Type 0
+OneMeta n F name x = (c : ℕ) (m : Meta) → c < n → Holds n F name c m → generation_of m ≡ version_generation x → meta_of x ≡ Some m
+
+-- a meta that some cloud holds, and none a higher one
+pub record IsTop (n : ℕ) (F : Contents) (name : List ℕ) (m : Meta) : Type 0 where
+  pub cloud : ℕ
+  pub in_width : cloud < n
+  pub held : Holds n F name cloud m
+  pub highest : (c : ℕ) (k : Meta) → c < n → Holds n F name c k → generation_of k ≤ generation_of m
+
+-- ---- the same as a test
+
+abbrev pub is_object : Option (List ℕ) → List ℕ → Bool
+is_object None object = false
+is_object (Some bytes) object = bytes_eq bytes object
+
+abbrev pub holds_meta : ℕ → Contents → List ℕ → Option Meta → ℕ → Bool
+holds_meta n F name None c = true
+holds_meta n F name (Some m) c = is_object (F c (meta_key name m)) (meta_object n name c m)
+
+-- cloud c holds the version's meta, where it has one
+abbrev pub holds : ℕ → Contents → List ℕ → Version → Clouds
+holds n F name x c = holds_meta n F name (meta_of x) c

@@ -1,0 +1,163 @@
+-- The laws of what stands.
+use Rattle.std.specs.Prelude.{ℕ, ◌≡◌, ◌+◌, ◌*◌, ◌<◌, ◌≤◌, ◌↔◌, Contains, Option, Some, List, [], IfSome, slice_index, slice_index_or}
+use Rattle.sha2.specs.Sha256.{sha256}
+use Rattle.nc_native.specs.Native.{combination}
+use Rattle.nc_code.specs.Parts.{PlanParts}
+use Rattle.nc_code.specs.Codes.{IsMds, IsWitness, code_row}
+use Rattle.nc_code.specs.Good.{plan_of}
+use Rattle.nc_meta.specs.declared.meta.Live.{Live}
+use Rattle.nc_name.specs.declared.key.Key.{Key}
+use Rattle.nc_name.specs.declared.key.Key.TheVariants as key
+use Rattle.nc_name.specs.Names.{IsName}
+use Rattle.nc_frame.specs.Frames.{Sealed}
+use Rattle.nc_meta.specs.declared.meta.Meta.{Meta}
+use Rattle.nc_meta.specs.Metas.{IsLive, generation_of}
+use Rattle.nc_cloud.specs.Contents.{Contents, Place}
+use Rattle.nc_cloud.specs.Record.{nothing}
+use Rattle.nc_cloud.specs.Images.{Image}
+use Rattle.nc_state.specs.Clouds.{Clouds, count_of, no_cloud, with_cloud, without_cloud}
+use Rattle.nc_state.specs.Versions.Version.{Never, Removed, Stored}
+use Rattle.nc_state.specs.Versions.{Version, IsValid, meta_of, version_generation}
+use Rattle.nc_state.specs.Holding.{AllHold, Holds, HoldsSealed, IsTop, NoneAbove}
+use Rattle.nc_state.specs.Right.{Names, PlacesStand, RightOn, free_slot_of}
+use Rattle.nc_state.specs.Entries.{Entry, HasEntry}
+use Rattle.nc_state.specs.Entries.Entry.{Rest}
+use Rattle.nc_state.specs.Weighing.{after, settled, weigh}
+use Rattle.nc_state.specs.Standing.{AreNames, Entries, IsHealed, Stands, no_entry, with_entry}
+use Rattle.nc_state.specs.Losses.{Loses, weighed}
+use Rattle.nc_state.specs.Mending.{IsMended}
+use Rattle.nc_state.specs.Rounds.{IsEntry, IsImage, LeavesAtRest, WritesMeta, WritesMissing}
+
+-- clouds without objects stand for no names, and nothing is damaged
+abbrev pub EmptyStands : Type 0
+EmptyStands = (n : ℕ) → 4 ≤ n → n ≤ 10 → Stands n nothing no_entry no_cloud
+
+-- to hold a meta is to hold its sealed payload
+abbrev pub HeldIsSealed : Type 0
+HeldIsSealed = (n : ℕ) (F : Contents) (name : List ℕ) (c : ℕ) (m : Meta) → 4 ≤ n → n ≤ 10 → IsName name → c < n → Holds n F name c m ↔ HoldsSealed n F name c m
+
+-- what a round, or a stop within it, leaves is an image of its entries
+abbrev pub RoundIsImage : Type 0
+RoundIsImage = (n : ℕ) (ps : List Place) (F G : Contents) → Image ps F G → IsImage n (IsEntry ps) F G
+
+-- a loss keeps what stands, where at most two clouds are damaged then
+abbrev pub LossKeeps : Type 0
+LossKeeps = (n lost : ℕ) (F G : Contents) (S : Entries) (D : Clouds) → Stands n F S D → Loses lost F G → count_of n (with_cloud D lost) ≤ 2
+    → Stands n G (weighed n G (with_cloud D lost) S) (with_cloud D lost)
+
+-- writes of chunks that aren't live, of right chunks on damaged clouds, and erasures of what isn't live keep what stands
+abbrev pub RestingRoundKeeps : Type 0
+RestingRoundKeeps = (n : ℕ) (F G : Contents) (S : Entries) (D : Clouds) (name : List ℕ) (x : Version)
+    → IsName name → Stands n F S D → S name ≡ Rest x → IsImage n (LeavesAtRest n D name x) F G
+    → Stands n G S D × (AllHold n F name x → AllHold n G name x)
+
+-- writes of the settled meta where it is missing keep what stands, and the entry is weighed anew
+abbrev pub SettleRoundKeeps : Type 0
+SettleRoundKeeps = (n : ℕ) (F G : Contents) (S : Entries) (D : Clouds) (name : List ℕ) (m : Meta)
+    → IsName name → Stands n F S D → meta_of (settled n F name (S name)) ≡ Some m → IsImage n (WritesMissing n F name m) F G
+    → Stands n G (with_entry S name (weigh n G D name (S name))) D
+
+-- writes of the metas of the next version, once its chunks stand, keep what stands; the entry is the one after a command that
+-- would make this version, and clouds that hold the old meta still do
+abbrev pub MetaRoundKeeps : Type 0
+MetaRoundKeeps = (n : ℕ) (F G : Contents) (S : Entries) (D : Clouds) (name : List ℕ) (x y : Version) (m : Meta)
+    → IsName name → Stands n F S D → S name ≡ Rest x
+    → meta_of y ≡ Some m → version_generation y ≡ version_generation x + 1 → IsValid n y → PlacesStand n F D name y
+    → IsImage n (WritesMeta n name m) F G
+    → Stands n G (with_entry S name (after n F G D name (S name) (Some y))) D × (AllHold n F name x → AllHold n G name x)
+
+-- an entry weighs itself while nothing changes
+abbrev pub WeighsItself : Type 0
+WeighsItself = (n : ℕ) (F : Contents) (D : Clouds) (name : List ℕ) (e : Entry) → HasEntry n F D name e → weigh n F D name e ≡ e
+
+-- once all clouds hold what was settled, the entry from before weighs as that at rest
+abbrev pub SettledWeighs : Type 0
+SettledWeighs = (n : ℕ) (F G : Contents) (D : Clouds) (name : List ℕ) (e : Entry) → 4 ≤ n → HasEntry n F D name e → AllHold n G name (settled n F name e)
+    → weigh n G D name e ≡ Rest (settled n F name e)
+
+-- the highest meta that some cloud holds is that of the settled version
+abbrev pub TopIsSettled : Type 0
+TopIsSettled = (n : ℕ) (F : Contents) (S : Entries) (D : Clouds) (name : List ℕ) (m : Meta)
+    → IsName name → Stands n F S D → IsTop n F name m → meta_of (settled n F name (S name)) ≡ Some m
+
+-- a name of which no cloud holds a meta rests at Never
+abbrev pub UnheldRests : Type 0
+UnheldRests = (n : ℕ) (F : Contents) (S : Entries) (D : Clouds) (name : List ℕ)
+    → IsName name → Stands n F S D → ((c : ℕ) (m : Meta) → c < n → Holds n F name c m → ⊥) → S name ≡ Rest Never
+
+-- no two metas of the highest generation differ
+abbrev pub TopIsOne : Type 0
+TopIsOne = (n : ℕ) (F : Contents) (S : Entries) (D : Clouds) (name : List ℕ) (c : ℕ) (m k : Meta)
+    → IsName name → Stands n F S D → IsTop n F name m → c < n → Holds n F name c k → generation_of k ≡ generation_of m → k ≡ m
+
+-- no frame of another cloud or width stands under a key of metadata
+abbrev pub NoneMisplaced : Type 0
+NoneMisplaced = (n : ℕ) (F : Contents) (S : Entries) (D : Clouds) (name : List ℕ) (c slot a w : ℕ) (bytes text payload : List ℕ)
+    → IsName name → Stands n F S D → c < n → F c (key.Meta name slot) ≡ Some bytes → Sealed bytes a w text payload → (a ≡ c) × (w ≡ n)
+
+-- the settled version is valid, and its places stand
+abbrev pub SettledStands : Type 0
+SettledStands = (n : ℕ) (F : Contents) (S : Entries) (D : Clouds) (name : List ℕ)
+    → IsName name → Stands n F S D → IsValid n (settled n F name (S name)) × PlacesStand n F D name (settled n F name (S name))
+
+-- ---- the entry after a command
+
+-- while no cloud holds a meta as high as the new version's, the entry is weighed as if the command made none
+abbrev pub UnwrittenWeighs : Type 0
+UnwrittenWeighs = (n : ℕ) (F G : Contents) (D : Clouds) (name : List ℕ) (e : Entry) (g : ℕ) (y : Version)
+    → IsValid n y → NoneAbove n G name g → g < version_generation y → after n F G D name e (Some y) ≡ weigh n G D name e
+
+-- while all clouds hold what was settled, the entry is the one from that version at rest
+abbrev pub AfterSettling : Type 0
+AfterSettling = (n : ℕ) (F G : Contents) (D : Clouds) (name : List ℕ) (e : Entry) (made : Option Version)
+    → 4 ≤ n → HasEntry n F D name e → AllHold n G name (settled n F name e)
+    → after n F G D name e made ≡ after n F G D name (Rest (settled n F name e)) made
+
+-- once all clouds hold the new version's meta, it is that version at rest
+abbrev pub WrittenRests : Type 0
+WrittenRests = (n : ℕ) (F G : Contents) (D : Clouds) (name : List ℕ) (e : Entry) (y : Version)
+    → 4 ≤ n → IsValid n y → AllHold n G name y → after n F G D name e (Some y) ≡ Rest y
+
+-- ---- the chunks of a version
+
+-- a version whose chunks on a cloud are in the free slot has no place there that the one before has
+abbrev pub FreeSlotIsFree : Type 0
+FreeSlotIsFree = (name : List ℕ) (x : Version) (m : Live) (v : List ℕ) (c : ℕ) (place : Key)
+    → slice_index m.slots c ≡ free_slot_of x c → Names name (Stored m v) c place → Names name x c place → ⊥
+
+-- the places of a version stand once they are right on all clouds
+abbrev pub RightPlacesStand : Type 0
+RightPlacesStand = (n : ℕ) (F : Contents) (D : Clouds) (name : List ℕ) (y : Version) → ((c : ℕ) → c < n → RightOn n F name y c) → PlacesStand n F D name y
+
+-- a removed file has none
+abbrev pub RemovedPlacesStand : Type 0
+RemovedPlacesStand = (n : ℕ) (F : Contents) (D : Clouds) (name : List ℕ) (generation : ℕ) → PlacesStand n F D name (Removed generation)
+
+-- those of a repaired version stand once they are right on the repaired cloud, where those of the version before stand
+abbrev pub MendedPlacesStand : Type 0
+MendedPlacesStand = (n i : ℕ) (F : Contents) (D : Clouds) (name : List ℕ) (plan : PlanParts) (old m : Live) (v : List ℕ)
+    → IsMended i plan old m → RightOn n F name (Stored m v) i → PlacesStand n F D name (Stored old v) → PlacesStand n F D name (Stored m v)
+
+-- on the repaired cloud they are in the free slot
+abbrev pub MendedIsFree : Type 0
+MendedIsFree = (n i : ℕ) (plan : PlanParts) (old m : Live) (v : List ℕ)
+    → IsMended i plan old m → IsLive n old → n ≤ 10 → i < n → slice_index m.slots i ≡ free_slot_of (Stored old v) i
+
+-- a repaired version is valid where its code and its plans are good, and the marks of the repaired cloud are the digests
+abbrev pub MendedIsValid : Type 0
+MendedIsValid = (n i : ℕ) (plan : PlanParts) (old m : Live) (v : List ℕ)
+    → IsMended i plan old m → IsLive n m → IsMds m.code → IfSome m.witnesses (λ w. (lost : ℕ) → lost < n → IsWitness m.code lost (plan_of w lost))
+    → ((r : ℕ) → r < 2 → slice_index_or m.marks (2 * i + r) [] ≡ sha256 (combination (code_row m.code i r) v n))
+    → IsValid n (Stored old v) → IsValid n (Stored m v)
+
+-- ---- whole vaults
+
+-- a name of which no cloud holds an object rests at Never
+abbrev pub UnlistedRests : Type 0
+UnlistedRests = (n : ℕ) (F : Contents) (S : Entries) (D : Clouds) (names : List (List ℕ)) (name : List ℕ)
+    → Stands n F S D → AreNames n F names → IsName name → (Contains names name → ⊥) → S name ≡ Rest Never
+
+-- a cloud that holds the meta of each name's version, and its chunks right, is damaged no more
+abbrev pub HealedStands : Type 0
+HealedStands = (n i : ℕ) (F : Contents) (S : Entries) (D : Clouds)
+    → Stands n F S D → ((name : List ℕ) → IsName name → IsHealed n F i name (S name)) → Stands n F S (without_cloud D i)

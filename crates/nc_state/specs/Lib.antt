@@ -1,0 +1,12 @@
+pub mod Versions
+pub mod Clouds
+pub mod Holding
+pub mod Right
+pub mod Entries
+pub mod Weighing
+pub mod Standing
+pub mod Losses
+pub mod Rounds
+pub mod Mending
+pub mod Laws
+pub mod Commands
