@@ -1,4 +1,4 @@
-# Each needs the command `rt` of the Rattle kit; `bench` needs python3 too.
+# Each needs the command `rt` of the Rattle kit; `demo` and `bench` need python3 too.
 .PHONY: demo test bench
 
 demo:

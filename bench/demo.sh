@@ -1,5 +1,6 @@
 #!/usr/bin/env bash
-# Shows what the program does today: builds it, runs it, and compares each exit status with the one that is wanted.
+# Shows what the program does today: builds it, runs it, and compares each exit status with the one that is wanted, and what a
+# put left in the folders with what plain.py, a program of its own, makes of the same file.
 set -u
 cd "$(dirname "$0")/.."
 program=crates/nccloud/out/nccloud
@@ -22,11 +23,11 @@ new_clouds() {
     done
 }
 
-# show WANTED MEANING INPUT WORD..: runs the program over $clouds on a file with these words.
+# show WANTED MEANING INPUT WORD..: runs the program over $clouds on a file with these words; its output goes to $output, where one is given.
 show() {
     local wanted=$1 meaning=$2 input=$3 status
     shift 3
-    "$program" "$clouds" "$@" <"$input" >"$scratch/out" 2>"$scratch/err"
+    "$program" "$clouds" "$@" <"$input" >"${output:-$scratch/out}" 2>"$scratch/err"
     status=$?
     printf 'status %-3s %s\n' "$status" "$meaning"
     [ "$status" = "$wanted" ] || { echo "    WRONG: $wanted was wanted"; failed=1; }
@@ -36,6 +37,22 @@ show() {
 # same FILE: whether the last command gave exactly this.
 same() {
     if cmp -s "$1" "$scratch/out"; then echo "           the output is as it should be"; else echo "    WRONG: other output"; failed=1; fi
+}
+
+# plainly NAME FILE: whether the clouds hold just what plain.py makes of this file.
+plainly() {
+    local folders= folder differs=0
+    rm -rf "$scratch/plain"
+    for folder in ${clouds//,/ }; do
+        folder=$scratch/plain/${folder##*/}
+        mkdir -p "$folder"
+        folders=$folders${folders:+,}$folder
+    done
+    python3 bench/plain.py "$folders" "$1" <"$2" || differs=1
+    for folder in ${folders//,/ }; do
+        diff -r "$scratch/${folder##*/}" "$folder" >/dev/null || differs=1
+    done
+    if [ $differs = 0 ]; then echo "           plain.py makes the same objects"; else echo "    WRONG: plain.py makes other objects"; failed=1; fi
 }
 
 big=$(find /usr/lib /usr/bin -type f -size +10M -size -60M -readable 2>/dev/null | sort | head -1)
@@ -50,6 +67,7 @@ for width in 4 7 10; do
     new_clouds "$width"
     show 0 "put of $big, $size bytes, on $width clouds" "$big" put report
     same "$scratch/said"
+    plainly report "$big"
     show 0 "get of it" "$scratch/empty" get report
     same "$big"
     [ "$width" != 4 ] || (cd "$scratch" && ls -l cloud? | sed 's/^/           /')
@@ -62,9 +80,13 @@ for width in 4 7 10; do
 done
 new_clouds 4
 show 0 "put of no bytes" "$scratch/empty" put empty
+plainly empty "$scratch/empty"
 show 0 "get of them" "$scratch/empty" get empty
 same "$scratch/empty"
 show 20 "put under the same name: it is taken" "$big" put empty
+printf x >"$scratch/byte"
+show 0 "put of a byte" "$scratch/byte" put byte
+output=/dev/full show 9 "get of it to a full device: the output failed" "$scratch/empty" get byte
 show 0 "put of 64 MiB, the longest file" "$scratch/longest" put longest
 show 0 "get of it" "$scratch/empty" get longest
 same "$scratch/longest"

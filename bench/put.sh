@@ -1,5 +1,5 @@
 #!/usr/bin/env bash
-# Times `put` and `get` of 64 MiB on 4 and on 10 folders beside `sha256sum` and `cp` of the same bytes, in turn. bench/README.md says what it means.
+# Times `put` and `get` of 64 MiB and of a byte on 4 and on 10 folders beside other programs, in turn. bench/README.md says what it means.
 set -eu
 cd "$(dirname "$0")/.."
 program=$PWD/crates/nccloud/out/nccloud
@@ -8,41 +8,51 @@ scratch=$(mktemp -d)
 trap 'rm -rf "$scratch"' EXIT
 head -c 67108864 /dev/urandom >"$scratch/file"
 python3 - "$program" "$scratch" "${1:-5}" <<'PYTHON'
-import os, subprocess, sys, time
+import os, shutil, subprocess, sys, time
 
 program, scratch, runs = sys.argv[1], sys.argv[2], int(sys.argv[3])
-file = scratch + "/file"
+file, byte, others = scratch + "/file", scratch + "/byte", scratch + "/others"
 size = os.path.getsize(file)
-with open(scratch + "/byte", "wb") as byte:
-    byte.write(b"x")
+with open(byte, "wb") as sink:
+    sink.write(b"x")
+folders = {width: [f"{scratch}/of{width}/cloud{number}" for number in range(width)] for width in (4, 10)}
 
 
-def clouds(width):
-    """The folders of so many clouds, new where they aren't there, and empty."""
-    folders = [f"{scratch}/of{width}/cloud{number}" for number in range(width)]
-    for folder in folders:
-        os.makedirs(folder, exist_ok=True)
-        for entry in os.listdir(folder):
-            os.remove(f"{folder}/{entry}")
-    return ",".join(folders)
+def empty_all():
+    """All folders that the commands write to are there, and empty."""
+    for folder in [others, *folders[4], *folders[10]]:
+        shutil.rmtree(folder, ignore_errors=True)
+        os.makedirs(folder)
 
 
 # what is timed, by name: the words, and the input
 commands = {}
 for width in (4, 10):
-    list_of = clouds(width)
-    commands[f"put, {width} clouds"] = ([program, list_of, "put", "file"], file)
-    commands[f"get, {width} clouds"] = ([program, list_of, "get", "file"], file)
-commands["put of a byte, 10 clouds"] = ([program, list_of, "put", "byte"], scratch + "/byte")
-commands["get of a byte, 10 clouds"] = ([program, list_of, "get", "byte"], scratch + "/byte")
+    clouds = ",".join(folders[width])
+    for what, given in (("", file), (" of a byte", byte)):
+        for command in ("put", "get"):
+            commands[f"{command}{what}, {width} clouds"] = ([program, clouds, command, os.path.basename(given)], given)
 commands["sha256sum"] = (["sha256sum"], file)
-commands["cp"] = (["cp", file, scratch + "/copy"], file)
-commands["cp and sync"] = (["sh", "-c", f"cp {file} {scratch}/copy && sync {scratch}/copy"], file)
+commands["cp"] = (["cp", file, others + "/cp"], file)
+commands["cp and sync"] = (["sh", "-c", 'cp "$0" "$1" && sync "$1"', file, others + "/synced"], file)
+copy_to_each = 'for folder in "$@"; do cp "$0" "$folder/copy" && sync "$folder/copy" || exit 1; done'
+for width in (4, 10):
+    share = f"{scratch}/share{width}"
+    shutil.copyfile(file, share)
+    os.truncate(share, -(-size // (width - 2)))
+    commands[f"cp and sync, {width} shares"] = (["sh", "-c", copy_to_each, share, *folders[width]], file)
+for width in (4, 10):
+    blocks = [f"-b{2 * (width - 2)}", "-c4", "-n1"]
+    commands[f"par2create, as {width} clouds"] = (["par2create", "-q", "-q", *blocks, "-B", scratch, f"{others}/par{width}", file], file)
+    shares = ["-k", str(width - 2), "-m", str(width)]
+    commands[f"zfec, {width} shares"] = (["zfec", "-q", "-f", *shares, "-d", others, "-p", f"zfec{width}", file], file)
+absent = {words[0] for words, _ in commands.values() if not shutil.which(words[0])}
+commands = {name: (words, given) for name, (words, given) in commands.items() if words[0] not in absent}
+
 seconds = {name: [] for name in commands}
 peaks = {name: 0 for name in commands}
 for _ in range(runs):
-    clouds(4)
-    clouds(10)
+    empty_all()
     for name, (words, given) in commands.items():
         with open(given, "rb") as source:
             start = time.perf_counter()
@@ -54,6 +64,8 @@ for _ in range(runs):
             sys.exit(f"{name} ended with status {child.returncode}")
         peaks[name] = max(peaks[name], used.ru_maxrss)
 print(f"{size} bytes, the least of {runs} runs in turn")
+for word in sorted(absent):
+    print(f"{word} isn't installed")
 beside = min(seconds["sha256sum"])
 for name in commands:
     least = min(seconds[name])

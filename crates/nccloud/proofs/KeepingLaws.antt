@@ -1,5 +1,5 @@
 -- What a put leaves is what a get gives.
-use Rattle.std.proofs.Common.{◌≡◌, ◌≢◌, ◌<◌, ◌≤◌, ◌+◌, ◌*◌, ◌/◌, ◌%◌, ℕ, Option, None, Some, List, [], length, get_or, slice_index, slice_index_or, replicate, map, refl, sym, ap, ◌∙◌, subst, arith, inl, inr, IsSomeAnd}
+use Rattle.std.proofs.Common.{◌≡◌, ◌<◌, ◌≤◌, ◌+◌, ◌*◌, ◌/◌, ◌%◌, ℕ, Option, None, Some, List, [], length, slice_index, slice_index_or, replicate, refl, sym, ap, ◌∙◌, subst, arith, inl, inr, IsSomeAnd}
 use Rattle.std.proofs.lemmas.Grind.{common_steps}
 use Rattle.std.proofs.lemmas.Bool.{cases_eq, cond_below}
 use Rattle.std.proofs.lemmas.List.FromFn.{get_or-map-range_with_len}
@@ -11,9 +11,10 @@ use Rattle.nc_name.specs.Keys.{key_text}
 use Rattle.nc_frame.specs.Frames.{Sealed}
 use Rattle.nc_frame.proofs.Shapes.{same_parts}
 use Rattle.nc_native.specs.Native.{combination}
-use Rattle.nc_code.specs.Codes.{code_row}
+use Rattle.nc_code.specs.Codes.{code_row, IsMds}
 use Rattle.nc_code.specs.Parts.{CodeParts}
-use Rattle.nc_code.specs.Striped.{striped_code}
+use Rattle.nc_code.specs.Good.{IsGood}
+use Rattle.nc_nextloss.specs.GoodCodes.{GoodParts}
 use Rattle.nc_meta.specs.declared.meta.Meta.{Meta as MetaValue}
 use Rattle.nc_meta.specs.declared.meta.Meta.TheVariants.{Live}
 use Rattle.nc_meta.specs.Metas.{Spells, generation_of}
@@ -49,65 +50,65 @@ number_of (Chunk name slot row) = 2
 
 -- the parts of the metadata of a new file
 
-generation_is : (n : ℕ) (v : List ℕ) → generation_of (Live (first_meta n v)) ≡ 1
+generation_is : (n : ℕ) (good : GoodParts) (v : List ℕ) → generation_of (Live (first_meta n good v)) ≡ 1
 unfolding first_meta
-generation_is n v = refl
+generation_is n good v = refl
 
-code_is : (n : ℕ) (v : List ℕ) → (first_meta n v).code ≡ striped_code n
+code_is : (n : ℕ) (good : GoodParts) (v : List ℕ) → (first_meta n good v).code ≡ good.code
 unfolding first_meta
-code_is n v = refl
+code_is n good v = refl
 
-len_is : (n : ℕ) (v : List ℕ) → length v ≡ (first_meta n v).len
+len_is : (n : ℕ) (good : GoodParts) (v : List ℕ) → length v ≡ (first_meta n good v).len
 unfolding first_meta
-len_is n v = refl
+len_is n good v = refl
 
 zero_at : (n k : ℕ) → slice_index (replicate n 0) k ≡ 0
 zero_at n k = grind (arith, common_steps)
 
-slot_is : (n : ℕ) (v : List ℕ) (c : ℕ) → slice_index (first_meta n v).slots c ≡ 0
+slot_is : (n : ℕ) (good : GoodParts) (v : List ℕ) (c : ℕ) → slice_index (first_meta n good v).slots c ≡ 0
 unfolding first_meta
-slot_is n v c = zero_at 10 c
+slot_is n good v c = zero_at 10 c
 
-mark_is : (n : ℕ) (v : List ℕ) (i : ℕ) → i < 20 → slice_index_or (first_meta n v).marks i [] ≡ mark_of n v i
+mark_is : (n : ℕ) (good : GoodParts) (v : List ℕ) (i : ℕ) → i < 20 → slice_index_or (first_meta n good v).marks i [] ≡ mark_of n good.code v i
 unfolding first_meta
-mark_is n v i l = get_or-map-range_with_len (mark_of n v) 0 20 i i [] l (omega arith)
+mark_is n good v i l = get_or-map-range_with_len (mark_of n good.code v) 0 20 i i [] l (omega arith)
 
 -- the mark of a row of a cloud
-mark_at : (n : ℕ) (v : List ℕ) (c r : ℕ) → n ≤ 10 → c < n → r < 2 → sha256 (combination (code_row (striped_code n) c r) v n) ≡ slice_index_or (first_meta n v).marks (2 * c + r) []
-mark_at n v c r narrow l pair =
+mark_at : (n : ℕ) (good : GoodParts) (v : List ℕ) (c r : ℕ) → n ≤ 10 → c < n → r < 2 → sha256 (combination (code_row good.code c r) v n) ≡ slice_index_or (first_meta n good v).marks (2 * c + r) []
+mark_at n good v c r narrow l pair =
     let cloud : (2 * c + r) / 2 ≡ c = omega (arith, pair) in
     let row : (2 * c + r) % 2 ≡ r = omega (arith, pair) in
     let low : 2 * c + r < 2 * n = omega (arith, pair, l) in
-    ap (λ k. sha256 (combination (code_row (striped_code n) k r) v n)) (sym cloud)
-    ∙ ap (λ k. sha256 (combination (code_row (striped_code n) ((2 * c + r) / 2) k) v n)) (sym row)
+    ap (λ k. sha256 (combination (code_row good.code k r) v n)) (sym cloud)
+    ∙ ap (λ k. sha256 (combination (code_row good.code ((2 * c + r) / 2) k) v n)) (sym row)
     ∙ cond_below (2 * c + r) (2 * n) _ (replicate 32 0) low
-    ∙ sym (mark_is n v (2 * c + r) (omega (arith, pair, l, narrow)))
+    ∙ sym (mark_is n good v (2 * c + r) (omega (arith, pair, l, narrow)))
 
-module _ (n : ℕ) (name v : List ℕ) (F G : Contents) (wide : 4 ≤ n) (narrow : n ≤ 10) (bytes : AreBytes v) (stores : Stores n name v F G) (free : IsFree n name F) where
-  parity : generation_of (Live (first_meta n v)) % 2 ≡ 1
-  parity = ap (λ g. g % 2) (generation_is n v)
+module _ (n : ℕ) (good : GoodParts) (name v : List ℕ) (F G : Contents) (wide : 4 ≤ n) (narrow : n ≤ 10) (is : IsGood good.code good.witnesses) (bytes : AreBytes v) (stores : Stores n good name v F G) (free : IsFree n name F) where
+  parity : generation_of (Live (first_meta n good v)) % 2 ≡ 1
+  parity = ap (λ g. g % 2) (generation_is n good v)
 
   meta_there : (c : ℕ) → c < n → IsThere (G c (Meta name 1)) (λ object. Sealed object c n (key_text (Meta name 1)) stores.metas.payload)
   meta_there c l = there_of (λ object. Sealed object c n (key_text (Meta name 1)) stores.metas.payload) (G c (Meta name 1)) (stores.metas.held c l)
 
-  holds_meta : (c : ℕ) → c < n → HoldsMeta n name G c (Live (first_meta n v))
+  holds_meta : (c : ℕ) → c < n → HoldsMeta n name G c (Live (first_meta n good v))
   holds_meta c l =
       let at = meta_there c l in
-      let sealed : SealedMeta n name c 1 at.bytes (Live (first_meta n v)) = record { payload = stores.metas.payload; is_sealed = at.said; spells = stores.metas.spells; parity = parity } in
+      let sealed : SealedMeta n name c 1 at.bytes (Live (first_meta n good v)) = record { payload = stores.metas.payload; is_sealed = at.said; spells = stores.metas.spells; parity = parity } in
       record {
         bytes = at.bytes;
         stands = subst (λ (s : ℕ). G c (Meta name s) ≡ Some at.bytes) (sym parity) at.there;
-        is_sealed = subst (λ (s : ℕ). SealedMeta n name c s at.bytes (Live (first_meta n v))) (sym parity) sealed;
+        is_sealed = subst (λ (s : ℕ). SealedMeta n name c s at.bytes (Live (first_meta n good v))) (sym parity) sealed;
       }
 
   -- in slot 1 there is no other
-  one_in_slot_1 : (c : ℕ) (o : MetaValue) (object : List ℕ) → c < n → G c (Meta name 1) ≡ Some object → SealedMeta n name c 1 object o → o ≡ Live (first_meta n v)
+  one_in_slot_1 : (c : ℕ) (o : MetaValue) (object : List ℕ) → c < n → G c (Meta name 1) ≡ Some object → SealedMeta n name c 1 object o → o ≡ Live (first_meta n good v)
   one_in_slot_1 c o object l stands sealed =
       let at = meta_there c l in
       let same : object ≡ at.bytes = some_same (sym stands ∙ at.there) in
       let there : Sealed at.bytes c n (key_text (Meta name 1)) sealed.payload = subst (λ (b : List ℕ). Sealed b c n (key_text (Meta name 1)) sealed.payload) same sealed.is_sealed in
       let parts = same_parts at.bytes c c n n (key_text (Meta name 1)) (key_text (Meta name 1)) sealed.payload stores.metas.payload there at.said in
-      one_spelling n wide narrow stores.metas.payload o (Live (first_meta n v)) (subst (λ (p : List ℕ). Spells n p o) parts.payload sealed.spells) stores.metas.spells
+      one_spelling n wide narrow stores.metas.payload o (Live (first_meta n good v)) (subst (λ (p : List ℕ). Spells n p o) parts.payload sealed.spells) stores.metas.spells
 
   -- slot 0 is as before
   slot_0_stays : (c : ℕ) → G c (Meta name 0) ≡ F c (Meta name 0)
@@ -117,7 +118,7 @@ module _ (n : ℕ) (name v : List ℕ) (F G : Contents) (wide : 4 ≤ n) (narrow
       (λ e. let k : 0 ≡ 2 = ap number_of e in absurd (omega (arith, k)))
       (λ e. let k : 0 ≡ 1 = ap number_of e in absurd (omega (arith, k)))
 
-  only : (c : ℕ) (o : MetaValue) → c < n → HoldsMeta n name G c o → o ≡ Live (first_meta n v)
+  only : (c : ℕ) (o : MetaValue) → c < n → HoldsMeta n name G c o → o ≡ Live (first_meta n good v)
   only c o l h = elim (cases_eq (generation_of o % 2) 1) [
     | inl one ↦ one_in_slot_1 c o h.bytes l (subst (λ (s : ℕ). G c (Meta name s) ≡ Some h.bytes) one h.stands) (subst (λ (s : ℕ). SealedMeta n name c s h.bytes o) one h.is_sealed)
     | inr other ↦
@@ -130,28 +131,28 @@ module _ (n : ℕ) (name v : List ℕ) (F G : Contents) (wide : 4 ≤ n) (narrow
         }))
   ]
 
-  right_at : (c r : ℕ) → c < n → r < 2 → HoldsPayload (wanted_of n name (first_meta n v) r c) (held_at n name (first_meta n v) G c r) (chunk_of n (first_meta n v) v r c)
+  right_at : (c r : ℕ) → c < n → r < 2 → HoldsPayload (wanted_of n name (first_meta n good v) r c) (held_at n name (first_meta n good v) G c r) (chunk_of n (first_meta n good v) v r c)
   right_at c r l pair =
-      subst (λ (k : CodeParts). IsSomeAnd (G c (Chunk name (slice_index (first_meta n v).slots c) r)) (λ object. Sealed object c n (key_text (Chunk name (slice_index (first_meta n v).slots c) r)) (combination (code_row k c r) v n))) (sym (code_is n v))
-      (subst (λ (s : ℕ). IsSomeAnd (G c (Chunk name s r)) (λ object. Sealed object c n (key_text (Chunk name s r)) (combination (code_row (striped_code n) c r) v n))) (sym (slot_is n v c)) (stores.chunks.right c r l pair))
+      subst (λ (k : CodeParts). IsSomeAnd (G c (Chunk name (slice_index (first_meta n good v).slots c) r)) (λ object. Sealed object c n (key_text (Chunk name (slice_index (first_meta n good v).slots c) r)) (combination (code_row k c r) v n))) (sym (code_is n good v))
+      (subst (λ (s : ℕ). IsSomeAnd (G c (Chunk name s r)) (λ object. Sealed object c n (key_text (Chunk name s r)) (combination (code_row good.code c r) v n))) (sym (slot_is n good v c)) (stores.chunks.right c r l pair))
 
-  marked_at : (c r : ℕ) → c < n → r < 2 → sha256 (chunk_of n (first_meta n v) v r c) ≡ slice_index_or (first_meta n v).marks (2 * c + r) []
-  marked_at c r l pair = ap (λ (k : CodeParts). sha256 (combination (code_row k c r) v n)) (code_is n v) ∙ mark_at n v c r narrow l pair
+  marked_at : (c r : ℕ) → c < n → r < 2 → sha256 (chunk_of n (first_meta n good v) v r c) ≡ slice_index_or (first_meta n good v).marks (2 * c + r) []
+  marked_at c r l pair = ap (λ (k : CodeParts). sha256 (combination (code_row k c r) v n)) (code_is n good v) ∙ mark_at n good v c r narrow l pair
 
   -- so the file is held
-  pub put_is_held : IsHeld n name (first_meta n v) v G
+  pub put_is_held : IsHeld n name (first_meta n good v) v G
   put_is_held = record {
     only = only;
-    mds = inl (code_is n v);
+    mds = subst (λ (k : CodeParts). IsMds k) (sym (code_is n good v)) is.mds;
     bytes = bytes;
-    long = len_is n v;
+    long = len_is n good v;
     first = n;
     second = n;
     holds = λ c l a b. holds_meta c l;
     right = λ c l a b. record { holds = λ r pair. right_at c r l pair; marked = λ r pair. marked_at c r l pair };
     sound = record {
       places = λ c r l pair. record {
-        whole = λ object there w. subst (λ (h : Option (List ℕ)). HoldsPayload (wanted_of n name (first_meta n v) r c) h (chunk_of n (first_meta n v) v r c)) there (right_at c r l pair);
+        whole = λ object there w. subst (λ (h : Option (List ℕ)). HoldsPayload (wanted_of n name (first_meta n good v) r c) h (chunk_of n (first_meta n good v) v r c)) there (right_at c r l pair);
       };
     };
   }

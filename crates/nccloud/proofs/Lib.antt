@@ -7,3 +7,4 @@ pub mod WordLaws
 pub mod GetLaws
 pub mod SeeingLaws
 pub mod KeepingLaws
+pub mod DrawingLaws

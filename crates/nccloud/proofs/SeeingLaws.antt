@@ -1,31 +1,34 @@
 -- What a view says of a new file is what the clouds hold.
-use Rattle.std.proofs.Common.{◌≡◌, ◌≤◌, ℕ, List, ◌∙◌, arith}
-use Rattle.nc_cloud.specs.Contents.{Contents, Rose, Grows}
+use Rattle.std.proofs.Common.{◌≡◌, ◌≤◌, ℕ, List, ◌∙◌}
+use Rattle.nc_cloud.specs.Contents.{Contents, Grows}
 use Rattle.nc_cloud.specs.Deciding.{HasCause}
 use Rattle.nc_cloud.specs.declared.deciding.RoundFault.{RoundFault}
 use Rattle.nc_cloud.specs.declared.deciding.RoundFault.TheVariants as round
 use Rattle.nc_settle.specs.Views.{Places}
 use Rattle.nc_settle.specs.Looking.{HasWidth, Sees, FailuresRose, OnlyFailuresRose}
 use Rattle.nc_settle.specs.Decisions.{NoneFailed}
+use Rattle.nc_download.proofs.FetchLaws.{rose_more}
 use Rattle.nc_settle.proofs.Seen.{none_held, top_is_highest, undisputed, disputed, nothing_misplaced, least_misplaced_held, least_rose, lower_stay, all_stay}
 use Rattle.nccloud.specs.Refusals.{IsFree, IsPutFault, IsTaken, PutRefuses}
 use Rattle.nccloud.specs.Run.{HasFaultCause, StaysClean}
 use Rattle.nccloud.specs.Seeing.{IsSeenFree, IsSeenTaken, SeenToRefuse}
+use Rattle.nccloud.specs.declared.setting.Setting.{Setting}
 use Rattle.nccloud.specs.declared.status.Fault.{Fault}
-use Rattle.nccloud.specs.declared.status.Fault.TheVariants.{NoFile, Cloud, Short, Conflict, Misplaced, Unsound, Taken, Memory}
+use Rattle.nccloud.specs.declared.status.Fault.TheVariants.{NoFile, Cloud, Short, Conflict, Misplaced, Unsound, Taken, Spent, Memory}
 
 -- what a view is refused for is a fault of put
 pub put_fault : (v : Places) (fault : Fault) → SeenToRefuse v fault → IsPutFault fault
 put_fault v (Cloud c) is = tt
 put_fault v Memory is = tt
 put_fault v Taken is = tt
+put_fault v (Spent tried) is = tt
 put_fault v (Misplaced c a b) is = tt
 put_fault v (Conflict g a b) is = tt
 put_fault v NoFile is = is
 put_fault v (Short bads) is = is
 put_fault v (Unsound a b) is = is
 
-module _ (n : ℕ) (name : List ℕ) (F : Contents) (v : Places) (wide : 4 ≤ n) (narrow : n ≤ 10) (sees : Sees n name F v) (width : HasWidth n v) where
+module _ (n : ℕ) (s : Setting) (name : List ℕ) (F : Contents) (v : Places) (wide : 4 ≤ n) (narrow : n ≤ 10) (sees : Sees n name F v) (width : HasWidth n v) where
   pub free_held : IsSeenFree v → IsFree n name F
   free_held free = record {
     none = none_held n name F v wide narrow sees width.first free.answered free.none;
@@ -39,11 +42,12 @@ module _ (n : ℕ) (name : List ℕ) (F : Contents) (v : Places) (wide : 4 ≤ n
     undisputed = undisputed n name F v wide narrow sees width.first taken.answered taken.settled taken.cloud taken.meta taken.top;
   }
 
-  pub refused_held : (fault : Fault) → SeenToRefuse v fault → PutRefuses n name F fault
+  pub refused_held : (fault : Fault) → SeenToRefuse v fault → PutRefuses n s name F fault
   refused_held (Cloud c) is = tt
   refused_held (Misplaced c a b) is = least_misplaced_held n name F v wide narrow sees width.first is.0 c a b is.1
   refused_held (Conflict g a b) is = (nothing_misplaced n name F v wide narrow sees width.first is.0 is.1, disputed n name F v wide narrow sees width.first is.0 g a b is.2)
   refused_held Taken is = (nothing_misplaced n name F v wide narrow sees width.first is.answered is.nothing_misplaced, taken_held is)
+  refused_held (Spent tried) is = absurd is
   refused_held Memory is = absurd is
   refused_held NoFile is = absurd is
   refused_held (Short list) is = absurd is
@@ -59,14 +63,11 @@ module _ (n : ℕ) (v : Places) (width : HasWidth n v) (exact : Type 0) (before 
   refused_cause (Misplaced c a b) is = clean is.0
   refused_cause (Conflict g a b) is = clean is.0
   refused_cause Taken is = clean is.answered
+  refused_cause (Spent tried) is = absurd is
   refused_cause Memory is = absurd is
   refused_cause NoFile is = absurd is
   refused_cause (Short list) is = absurd is
   refused_cause (Unsound a b) is = absurd is
-
--- counts that grew and then rose have risen
-rose_more : (a b c : ℕ) → a ≤ b → Rose b c → Rose a c
-rose_more a b c low rose = omega (arith, low, rose)
 
 -- what no count changed in leaves the cause of the round after it
 pub later_round : (exact : Type 0) (before mid now : ℕ → ℕ) → Grows before mid → (exact → (c : ℕ) → mid c ≡ before c) → (fault : RoundFault) → HasCause exact mid now fault → HasCause exact before now fault

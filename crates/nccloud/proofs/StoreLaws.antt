@@ -7,7 +7,7 @@ use Rattle.nc_name.specs.Keys.{name_of, key_text}
 use Rattle.nc_frame.specs.Frames.{frame, HasFrame}
 use Rattle.nc_native.specs.Native.{combination}
 use Rattle.nc_code.specs.Codes.{code_row}
-use Rattle.nc_code.specs.Striped.{striped_code}
+use Rattle.nc_nextloss.specs.GoodCodes.{GoodParts}
 use Rattle.nc_cloud.specs.declared.fleet.Job.{Job}
 use Rattle.nc_cloud.specs.Contents.{Contents, Store, Place}
 use Rattle.nc_cloud.specs.Images.{Image, Written}
@@ -51,10 +51,10 @@ holds_frame : (n : ℕ) (G : Contents) (c : ℕ) (key : Key) (payload : List ℕ
 holds_frame n G c key payload fits is = rw is (record { fits = fits; is_frame = refl })
 
 -- all three rounds of put
-module _ (n : ℕ) (name v : List ℕ) (first second metas : List Job) (made : IsPrepared n name v first second metas) (F G H K : Contents)
+module _ (n : ℕ) (good : GoodParts) (name v : List ℕ) (first second metas : List Job) (made : IsPrepared n good name v first second metas) (F G H K : Contents)
     (one : Written (places first) F G) (two : Written (places second) G H) (three : Written (places metas) H K) where
   abbrev chunk : ℕ → ℕ → List ℕ
-  chunk r c = combination (code_row (striped_code n) c r) v n
+  chunk r c = combination (code_row good.code c r) v n
 
   row_0 : (c : ℕ) → c < n → K c (Chunk name 0 0) ≡ Some (frame c n (key_text (Chunk name 0 0)) (chunk 0 c))
   row_0 c l =
@@ -72,7 +72,7 @@ module _ (n : ℕ) (name v : List ℕ) (first second metas : List Job) (made : I
   right c (suc zero) l low = holds_frame n K c (Chunk name 0 1) (chunk 1 c) (made.chunk_fits c 1 l low) (row_1 c l)
   right c (suc (suc r)) l low = absurd (omega arith)
 
-  pub stored : Stores n name v F K
+  pub stored : Stores n good name v F K
   stored = record {
     chunks = record { right = right };
     metas = record {
@@ -86,11 +86,11 @@ module _ (n : ℕ) (name v : List ℕ) (first second metas : List Job) (made : I
         ∙ written_others n (Chunk name 0 0) (chunk 0) _ made.first_places F G one c key not_0;
     past = λ c m.
         written_out (meta_place n name made.payload) (λ k. refl) n _ made.meta_places H K three c m
-        ∙ written_out (file_place n name v 1) (λ k. refl) n _ made.second_places G H two c m
-        ∙ written_out (file_place n name v 0) (λ k. refl) n _ made.first_places F G one c m;
+        ∙ written_out (file_place n good.code name v 1) (λ k. refl) n _ made.second_places G H two c m
+        ∙ written_out (file_place n good.code name v 0) (λ k. refl) n _ made.first_places F G one c m;
   }
 
 -- of whichever file they are the rounds
 pub stored_of : (n : ℕ) (first second metas : List Job) (F G H K : Contents) → Written (places first) F G → Written (places second) G H → Written (places metas) H K
-    → (name v : List ℕ) → IsPrepared n name v first second metas → Stores n name v F K
-stored_of n first second metas F G H K one two three name v made = stored n name v first second metas made F G H K one two three
+    → (good : GoodParts) (name v : List ℕ) → IsPrepared n good name v first second metas → Stores n good name v F K
+stored_of n first second metas F G H K one two three good name v made = stored n good name v first second metas made F G H K one two three

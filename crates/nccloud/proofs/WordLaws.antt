@@ -1,5 +1,5 @@
 -- When a run is answered by how it is used.
-use Rattle.std.proofs.Common.{◌≡◌, ℕ, List, [], slice_index_or, inl, inr, sym, ap, ◌∙◌, subst, ◌↔◌}
+use Rattle.std.proofs.Common.{◌≡◌, ℕ, List, [], slice_index, slice_index_or, inl, inr, sym, ap, ◌∙◌, subst, arith, ◌↔◌}
 use Rattle.nc_name.specs.Names.{IsName}
 use Rattle.nc_name.specs.declared.name.NameFault.{NameFault}
 use Rattle.nccloud.specs.declared.status.Status.{Status}
@@ -9,7 +9,7 @@ use Rattle.nccloud.specs.declared.words.Command.TheVariants.{Put, Get}
 use Rattle.nccloud.specs.declared.words.WordFault.{WordFault}
 use Rattle.nccloud.specs.declared.words.WordFault.TheVariants as word
 use Rattle.nccloud.specs.Run.{HasBadName, IsBegun}
-use Rattle.nccloud.specs.Words.{target, Asks, RefusesWords, IsCommandOf}
+use Rattle.nccloud.specs.Words.{target, Asks, IfPut, put_words, RefusesWords, IsCommandOf}
 
 -- words that ask for a command are one
 is_command : (words : List (List ℕ)) (command : Command) → Asks words command → IsCommandOf words (target command)
@@ -34,3 +34,10 @@ argument_is words text (inr get) = ap (λ (ws : List (List ℕ)). slice_index_or
 -- what a command is about is a name
 pub asked_name : (words : List (List ℕ)) (command : Command) → Asks words command → (text : List ℕ) → IsCommandOf words text → IsName text
 asked_name words command asks text is = subst (λ (t : List ℕ). IsName t) (sym (argument_is words (target command) (is_command words command asks)) ∙ argument_is words text is) asks.1
+
+-- what holds of the name of a put holds of the text after the word
+pub asked_put : (words : List (List ℕ)) (command : Command) (P : List ℕ → Type 0) → Asks words command → IfPut command P → (text : List ℕ) → words ≡ put_words text → P text
+asked_put words (Put name) P asks is text same = subst P (ap (λ (ws : List (List ℕ)). slice_index_or ws 1 []) (sym asks.0 ∙ same)) is
+asked_put words (Get name) P asks is text same =
+    let letters : 103 ≡ 112 = ap (λ (ws : List (List ℕ)). slice_index (slice_index_or ws 0 []) 0) (sym asks.0 ∙ same) in
+    absurd (omega (arith, letters))

@@ -22,6 +22,7 @@ GetRefuses n name F (fault.Unsound a b) = Fetches n name F (Err (fetch.Unsound a
 GetRefuses n name F (fault.Cloud c) = Unit {0}
 GetRefuses n name F fault.Memory = Unit {0}
 GetRefuses n name F fault.Taken = ⊥
+GetRefuses n name F (fault.Spent tried) = ⊥
 
 -- the file that the clouds give was written, as far as Wrote says
 pub record SendsFile (n : ℕ) (name : List ℕ) (F : Contents) (Wrote : List ℕ → Type 0) : Type 0 where
@@ -56,6 +57,7 @@ Gives v before now (Vault (fault.Conflict g a b)) = ⊥
 Gives v before now (Vault (fault.Misplaced c a b)) = ⊥
 Gives v before now (Vault (fault.Unsound a b)) = ⊥
 Gives v before now (Vault fault.Taken) = ⊥
+Gives v before now (Vault (fault.Spent tried)) = ⊥
 Gives v before now (Width w) = ⊥
 Gives v before now Usage = ⊥
 Gives v before now (Name f) = ⊥

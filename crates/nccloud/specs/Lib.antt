@@ -1,5 +1,6 @@
 pub mod Codes
 pub mod Counts
+pub mod Drawing
 pub mod FirstMeta
 pub mod Got
 pub mod Input
@@ -8,6 +9,8 @@ pub mod Output
 pub mod Refusals
 pub mod Run
 pub mod Seeing
+pub mod Settings
 pub mod Status
 pub mod Store
+pub mod Storing
 pub mod Words

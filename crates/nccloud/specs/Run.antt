@@ -4,14 +4,13 @@ use Rattle.std.specs.Io.KnownBytes.{Consumes, IsAtEnd}
 use Rattle.nc_name.specs.declared.name.NameFault.{NameFault}
 use Rattle.nc_name.specs.Names.{Refuses}
 use Rattle.nc_cloud.specs.Contents.{Contents, Rose}
+use Rattle.nccloud.specs.declared.setting.Setting.{Setting}
 use Rattle.nccloud.specs.declared.status.Fault.{Fault}
 use Rattle.nccloud.specs.declared.status.Fault.TheVariants as fault
 use Rattle.nccloud.specs.declared.status.Status.{Status}
 use Rattle.nccloud.specs.declared.status.Status.TheVariants.{Ok, Width, Usage, Name, TooLong, ReadFault, WriteFault, Vault}
-use Rattle.nc_download.specs.Giving.{IsHeld}
-use Rattle.nccloud.specs.FirstMeta.{first_meta}
 use Rattle.nccloud.specs.Input.{limit}
-use Rattle.nccloud.specs.Store.{Stores}
+use Rattle.nccloud.specs.Storing.{StoresFirst}
 use Rattle.nccloud.specs.Words.{IsCommandOf}
 
 -- a number of clouds that files are spread over
@@ -85,6 +84,7 @@ HasFaultCause exact n before now (fault.Conflict g a b) = StaysClean exact n bef
 HasFaultCause exact n before now (fault.Misplaced c a b) = StaysClean exact n before now
 HasFaultCause exact n before now (fault.Unsound a b) = StaysClean exact n before now
 HasFaultCause exact n before now fault.Taken = StaysClean exact n before now
+HasFaultCause exact n before now (fault.Spent tried) = StaysClean exact n before now
 
 -- what is left of the input after these bytes of it were taken
 pub record Takes (before now : Option (List ℕ)) (Amount : List ℕ → Type 0) : Type 0 where
@@ -105,6 +105,7 @@ TakesInput before now TooLong = Takes before now (λ taken. length taken ≡ lim
 TakesInput before now ReadFault = Takes before now (λ taken. length taken ≤ limit)
 TakesInput before now (Vault fault.Memory) = Takes before now (λ taken. length taken ≤ limit)
 TakesInput before now (Vault fault.Taken) = TakesAll before now
+TakesInput before now (Vault (fault.Spent tried)) = TakesAll before now
 TakesInput before now (Vault (fault.Cloud c)) = TakesAll before now
 TakesInput before now (Vault (fault.Conflict g a b)) = TakesAll before now
 TakesInput before now (Vault (fault.Misplaced c a b)) = TakesAll before now
@@ -115,9 +116,8 @@ TakesInput before now WriteFault = TakesAll before now
 TakesInput before now Ok = TakesAll before now
 
 -- the clouds hold all that was left of the input under this name, so that get gives it
-pub record PutsInput (name : List ℕ) (before now : Option (List ℕ)) (n : ℕ) (F G : Contents) : Type 0 where
+pub record PutsInput (s : Setting) (name : List ℕ) (before now : Option (List ℕ)) (n : ℕ) (F G : Contents) : Type 0 where
   pub bytes : List ℕ
   pub consumed : Consumes before now bytes
   pub ended : IsAtEnd now
-  pub stores : Stores n name bytes F G
-  pub holds : IsHeld n name (first_meta n bytes) bytes G
+  pub stored : StoresFirst n s name bytes F G

@@ -28,6 +28,7 @@ SeenToRefuse v (fault.Misplaced c a b) = NoneFailed v × IsLeastMisplaced v c a 
 SeenToRefuse v (fault.Conflict g a b) = NoneFailed v × NoneMisplaced v × IsConflict v g a b
 SeenToRefuse v fault.Taken = IsSeenTaken v
 SeenToRefuse v fault.Memory = ⊥
+SeenToRefuse v (fault.Spent tried) = ⊥
 SeenToRefuse v fault.NoFile = ⊥
 SeenToRefuse v (fault.Short list) = ⊥
 SeenToRefuse v (fault.Unsound a b) = ⊥

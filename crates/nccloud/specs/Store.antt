@@ -10,9 +10,9 @@ use Rattle.nc_frame.specs.Frames.{frame, HasFrame, Sealed, Whole}
 use Rattle.nc_native.specs.Native.{combination}
 use Rattle.nc_code.specs.Codes.{code_row}
 use Rattle.nc_code.specs.Parts.{CodeParts}
-use Rattle.nc_code.specs.Striped.{striped_code}
 use Rattle.nc_meta.specs.declared.meta.Meta.TheVariants.{Live}
 use Rattle.nc_meta.specs.Metas.{Spells}
+use Rattle.nc_nextloss.specs.GoodCodes.{GoodParts}
 use Rattle.nccloud.specs.FirstMeta.{first_meta}
 use Rattle.nc_cloud.specs.Contents.{Contents, Place}
 
@@ -56,38 +56,39 @@ pub record AreSealedMetas (n : ℕ) (name payload : List ℕ) (clouds : ℕ) (jo
   pub whole : All (λ j. Whole j.bytes) jobs
   pub fits : (c : ℕ) → c < clouds → HasFrame c n (key_text (Meta name 1)) payload
 
--- cloud c is to hold the combination of the file v by its row r
-abbrev pub file_place : ℕ → List ℕ → List ℕ → ℕ → ℕ → Place
-file_place n name v r c = sealed_place n c (Chunk name 0 r) (combination (code_row (striped_code n) c r) v n)
+-- cloud c is to hold the combination of the file v by its row r of the code
+abbrev pub file_place : ℕ → CodeParts → List ℕ → List ℕ → ℕ → ℕ → Place
+file_place n code name v r c = sealed_place n c (Chunk name 0 r) (combination (code_row code c r) v n)
 
 -- every cloud holds this metadata of a new file v
-pub record HasMetas (n : ℕ) (name v : List ℕ) (G : Contents) : Type 0 where
+pub record HasMetas (n : ℕ) (good : GoodParts) (name v : List ℕ) (G : Contents) : Type 0 where
   pub payload : List ℕ
-  pub spells : Spells n payload (Live (first_meta n v))
+  pub spells : Spells n payload (Live (first_meta n good v))
   pub held : (c : ℕ) → c < n → Holds n G c (Meta name 1) payload
 
--- the file v is stored under a new name, and every other object is as before
-pub record Stores (n : ℕ) (name v : List ℕ) (F G : Contents) : Type 0 where
-  pub chunks : HasChunks n (striped_code n) name v G
-  pub metas : HasMetas n name v G
+-- the file v is stored under a new name by this code, and every other object is as before
+pub record Stores (n : ℕ) (good : GoodParts) (name v : List ℕ) (F G : Contents) : Type 0 where
+  pub chunks : HasChunks n good.code name v G
+  pub metas : HasMetas n good name v G
   pub others : (c : ℕ) (key : Key) → key ≢ Chunk name 0 0 → key ≢ Chunk name 0 1 → key ≢ Meta name 1 → G c key ≡ F c key
   pub past : (c : ℕ) → n ≤ c → G c ≡ F c
 
--- the writes that store the file v
-pub record IsPrepared (n : ℕ) (name v : List ℕ) (first second metas : List Job) : Type 0 where
+-- the writes that store the file v by this code
+pub record IsPrepared (n : ℕ) (good : GoodParts) (name v : List ℕ) (first second metas : List Job) : Type 0 where
   pub payload : List ℕ
-  pub spells : Spells n payload (Live (first_meta n v))
-  pub first_places : places first ≡ row (file_place n name v 0) 0 n
-  pub second_places : places second ≡ row (file_place n name v 1) 0 n
+  pub spells : Spells n payload (Live (first_meta n good v))
+  pub first_places : places first ≡ row (file_place n good.code name v 0) 0 n
+  pub second_places : places second ≡ row (file_place n good.code name v 1) 0 n
   pub meta_places : places metas ≡ row (meta_place n name payload) 0 n
   pub first_whole : All (λ j. Whole j.bytes) first
   pub second_whole : All (λ j. Whole j.bytes) second
   pub meta_whole : All (λ j. Whole j.bytes) metas
-  pub chunk_fits : (c r : ℕ) → c < n → r < 2 → HasFrame c n (key_text (Chunk name 0 r)) (combination (code_row (striped_code n) c r) v n)
+  pub chunk_fits : (c r : ℕ) → c < n → r < 2 → HasFrame c n (key_text (Chunk name 0 r)) (combination (code_row good.code c r) v n)
   pub meta_fits : (c : ℕ) → c < n → HasFrame c n (key_text (Meta name 1)) payload
 
 -- the writes that store some file
 pub record ArePrepared (n : ℕ) (first second metas : List Job) : Type 0 where
+  pub good : GoodParts
   pub name : List ℕ
   pub file : List ℕ
-  pub made : IsPrepared n name file first second metas
+  pub made : IsPrepared n good name file first second metas

@@ -1,21 +1,35 @@
-//! The program: `nccloud put NAME` stores standard input on clouds that are folders.
+//! The program: `nccloud CLOUDS put NAME` stores standard input on clouds that are folders, and `get NAME` gives it back.
 #![tactic(auto)]
 
+mod drawing;
 mod failed;
+#[cfg(test)]
+mod fixtures;
+#[cfg(test)]
+mod folder_tests;
 mod get;
+#[cfg(test)]
+mod get_tests;
 mod input;
 mod marks;
 mod memory;
 mod output;
+#[cfg(test)]
+mod planted_tests;
 mod prepare;
 mod put;
+#[cfg(test)]
+mod put_tests;
 mod run;
 mod sealing;
+mod setting;
 mod sink;
 mod source;
 mod status;
 #[cfg(test)]
-mod tests;
+mod stream_tests;
+#[cfg(test)]
+mod word_tests;
 mod words;
 
 use crate::run::run;

@@ -3,14 +3,18 @@ ghost use Rattle.std.specs.Prelude.{◌≡◌, ◌≤◌, ◌<◌, ◌^◌, ℕ,
 ghost use Rattle.nc_cloud.specs.Contents.{Grows};
 ghost use Rattle.nc_cloud.specs.Deciding.{HasCause};
 ghost use Rattle.nc_bytes.specs.Bytes.{AreBytes};
-ghost use Rattle.nc_download.specs.Giving.{IsHeld};
-ghost use Rattle.nccloud.specs.FirstMeta.{first_meta};
+ghost use Rattle.nc_nextloss.specs.GoodCodes.{GoodParts};
+ghost use Rattle.nccloud.specs.Drawing.{HasNoCode};
 ghost use Rattle.nccloud.specs.Refusals.{IsFree, IsPutFault, PutRefuses};
 ghost use Rattle.nccloud.specs.Run.{HasFaultCause, StaysClean};
 ghost use Rattle.nccloud.specs.Seeing.{IsSeenFree, SeenToRefuse};
+ghost use Rattle.nccloud.specs.Settings.{IsSetting};
+ghost use Rattle.nccloud.specs.Storing.{StoresFirst};
 ghost use Rattle.nccloud.specs.Store.{ArePrepared, ChangesOnlyName, IsPrepared, Stores};
 
+use crate::drawing::first_code;
 use crate::prepare::{Prepared, prepare};
+use crate::setting::Setting;
 use crate::status::Fault;
 use nc_cloud::{Fleet, Job, RoundFault, write_row};
 use nc_name::{Blob, Name};
@@ -18,25 +22,27 @@ use nc_settle::{View, look};
 use std::alloc::Global;
 use std::thread::Threads;
 
-/// Stores a new file: its chunks by the striped code, and then its metadata, of generation 1. Where some cloud holds
-/// metadata of this name, in either slot, nothing is written.
+/// Stores a new file under the code that its name draws: its chunks, and then its metadata, of generation 1, with a witness for
+/// each next loss. Where some cloud holds metadata of this name, in either slot, or no code is found, nothing is written.
 pub fn put<R: Threads + Sync, F: Fleet>(
     rt: &R,
     alloc: Global,
     fleet: &mut F,
+    setting: &Setting,
     name: &Name,
     bytes: Blob,
 ) -> Result<(), Fault>
     requires ready { F.ready }
     requires wide { 4 ≤ F.clouds fleet.old }
     requires narrow { F.clouds fleet.old ≤ 10 }
+    requires setting { IsSetting setting.now }
     requires short { length bytes ≤ 2 ^ 26 }
-    ensures stored { F.tells → OnOk result (Stores (F.clouds fleet.old) name.now bytes (F.held fleet.old) (F.held fleet.new)) }
-    ensures holds { F.tells → OnOk result (IsHeld (F.clouds fleet.old) name.now (first_meta (F.clouds fleet.old) bytes) bytes (F.held fleet.new)) }
+    ensures stored { F.tells → OnOk result (StoresFirst (F.clouds fleet.old) setting.now name.now bytes (F.held fleet.old) (F.held fleet.new)) }
     ensures free { F.tells → OnOk result (IsFree (F.clouds fleet.old) name.now (F.held fleet.old)) }
     ensures begins { IfErr result IsPutFault }
-    ensures refused { F.tells → IfErr result (PutRefuses (F.clouds fleet.old) name.now (F.held fleet.old)) }
+    ensures refused { F.tells → IfErr result (PutRefuses (F.clouds fleet.old) setting.now name.now (F.held fleet.old)) }
     ensures kept { F.tells → (IsFree (F.clouds fleet.old) name.now (F.held fleet.old) → ⊥) → F.held fleet.new ≡ F.held fleet.old }
+    ensures spent { HasNoCode (F.clouds fleet.old) setting.now name.now → F.held fleet.new ≡ F.held fleet.old }
     ensures only { F.tells → ChangesOnlyName name.now (F.held fleet.old) (F.held fleet.new) }
     ensures cause { IfErr result (HasFaultCause F.counts_exactly (F.clouds fleet.old) (F.faults fleet.old) (F.faults fleet.new)) }
     ensures clean { OnOk result (StaysClean F.counts_exactly (F.clouds fleet.old) (F.faults fleet.old) (F.faults fleet.new)) }
@@ -48,13 +54,16 @@ pub fn put<R: Threads + Sync, F: Fleet>(
         Ok(()) => {}
         Err(fault) => return Err(fault),
     }
+    let good = match first_code(setting, name, fleet.width() as u8) {
+        Ok(good) => good,
+        Err(fault) => return Err(fault),
+    };
     are_bytes(bytes.bytes());
-    let width = fleet.width() as u8;
     let Prepared {
         first,
         second,
         metas,
-    } = prepare(rt, alloc, name, width, bytes)?;
+    } = prepare(rt, alloc, name, &good, setting.workers, bytes)?;
     match write_all(fleet, first, second, metas) {
         Ok(()) => Ok(()),
         Err(RoundFault::Cloud(cloud)) => Err(Fault::Cloud(cloud)),
@@ -78,8 +87,8 @@ fn write_all<F: Fleet>(
 ) -> Result<(), RoundFault>
     requires ready { F.ready }
     requires prepared { ArePrepared (F.clouds fleet.old) first.items second.items metas.items }
-    ensures stored { F.tells → OnOk result ((name v : List ℕ) → IsPrepared (F.clouds fleet.old) name v first.items second.items metas.items → Stores (F.clouds fleet.old) name v (F.held fleet.old) (F.held fleet.new)) }
-    ensures only { F.tells → (name v : List ℕ) → IsPrepared (F.clouds fleet.old) name v first.items second.items metas.items → ChangesOnlyName name (F.held fleet.old) (F.held fleet.new) }
+    ensures stored { F.tells → OnOk result ((good : GoodParts) (name v : List ℕ) → IsPrepared (F.clouds fleet.old) good name v first.items second.items metas.items → Stores (F.clouds fleet.old) good name v (F.held fleet.old) (F.held fleet.new)) }
+    ensures only { F.tells → (good : GoodParts) (name v : List ℕ) → IsPrepared (F.clouds fleet.old) good name v first.items second.items metas.items → ChangesOnlyName name (F.held fleet.old) (F.held fleet.new) }
     ensures cause { IfErr result (HasCause F.counts_exactly (F.faults fleet.old) (F.faults fleet.new)) }
     ensures clean { F.counts_exactly → OnOk result ((c : ℕ) → F.faults fleet.new c ≡ F.faults fleet.old c) }
     ensures clouds { F.clouds fleet.new ≡ F.clouds fleet.old }

@@ -4,10 +4,12 @@ ghost use Rattle.std.specs.Io.KnownBytes.{Appends};
 ghost use Rattle.nc_name.specs.Names.{IsName};
 ghost use Rattle.nc_name.specs.declared.name.NameFault.{NameFault as NameCause};
 ghost use Rattle.nc_cloud.specs.Contents.{Rose};
+ghost use Rattle.nccloud.specs.Drawing.{HasNoCode};
 ghost use Rattle.nccloud.specs.Got.{GetAnswers, GivesHeld};
 ghost use Rattle.nccloud.specs.Output.{AppendsSome};
 ghost use Rattle.nccloud.specs.Refusals.{IsFree, PutRefuses};
 ghost use Rattle.nccloud.specs.Run.{IsWide, HasBadName, IsBegun, IsEarly, IsDone, IfVault, HasFaultCause, StaysClean, TakesInput, PutsInput};
+ghost use Rattle.nccloud.specs.Settings.{standard, IsSetting};
 ghost use Rattle.nccloud.specs.Store.{ChangesOnlyName};
 ghost use Rattle.nccloud.specs.Words.{put_words, get_words, put_output, IsCommandOf, IfPut, IfGet};
 
@@ -15,6 +17,7 @@ use crate::get::get;
 use crate::input::{InputFault, read_all};
 use crate::output::send;
 use crate::put::put;
+use crate::setting::Setting;
 use crate::sink::Sink;
 use crate::source::Source;
 use crate::status::{Fault, Status};
@@ -47,10 +50,11 @@ pub fn run<R: Threads + Sync, F: Fleet, S: Source, K: Sink, E: Sink>(
 
     // put
     ensures input { (text : List ℕ) → map string_bytes words.now ≡ put_words text → TakesInput (S.left source.old) (S.left source.new) result }
-    ensures stored { F.tells → (text : List ℕ) → map string_bytes words.now ≡ put_words text → IsDone result → PutsInput text (S.left source.old) (S.left source.new) (F.clouds fleet.old) (F.held fleet.old) (F.held fleet.new) }
+    ensures stored { F.tells → (text : List ℕ) → map string_bytes words.now ≡ put_words text → IsDone result → PutsInput standard text (S.left source.old) (S.left source.new) (F.clouds fleet.old) (F.held fleet.old) (F.held fleet.new) }
     ensures free { F.tells → (text : List ℕ) → map string_bytes words.now ≡ put_words text → IsDone result → IsFree (F.clouds fleet.old) text (F.held fleet.old) }
-    ensures refused { F.tells → (text : List ℕ) → map string_bytes words.now ≡ put_words text → IfVault result (PutRefuses (F.clouds fleet.old) text (F.held fleet.old)) }
+    ensures refused { F.tells → (text : List ℕ) → map string_bytes words.now ≡ put_words text → IfVault result (PutRefuses (F.clouds fleet.old) standard text (F.held fleet.old)) }
     ensures kept { F.tells → (text : List ℕ) → map string_bytes words.now ≡ put_words text → (IsFree (F.clouds fleet.old) text (F.held fleet.old) → ⊥) → F.held fleet.new ≡ F.held fleet.old }
+    ensures spent { (text : List ℕ) → map string_bytes words.now ≡ put_words text → HasNoCode (F.clouds fleet.old) standard text → F.held fleet.new ≡ F.held fleet.old }
     ensures only { F.tells → (text : List ℕ) → map string_bytes words.now ≡ put_words text → ChangesOnlyName text (F.held fleet.old) (F.held fleet.new) }
     ensures said { (text : List ℕ) → map string_bytes words.now ≡ put_words text → result ≡ Status.Ok → Appends (K.written out.old) (K.written out.new) put_output }
     ensures said_some { (text : List ℕ) → map string_bytes words.now ≡ put_words text → result ≡ Status.WriteFault → AppendsSome (K.written out.old) (K.written out.new) put_output }
@@ -105,10 +109,11 @@ fn perform<R: Threads + Sync, F: Fleet, S: Source, K: Sink>(
 
     // put
     ensures input { IfPut command.now (λ _. TakesInput (S.left source.old) (S.left source.new) result) }
-    ensures stored { F.tells → IfPut command.now (λ name. IsDone result → PutsInput name (S.left source.old) (S.left source.new) (F.clouds fleet.old) (F.held fleet.old) (F.held fleet.new)) }
+    ensures stored { F.tells → IfPut command.now (λ name. IsDone result → PutsInput standard name (S.left source.old) (S.left source.new) (F.clouds fleet.old) (F.held fleet.old) (F.held fleet.new)) }
     ensures free { F.tells → IfPut command.now (λ name. IsDone result → IsFree (F.clouds fleet.old) name (F.held fleet.old)) }
-    ensures refused { F.tells → IfPut command.now (λ name. IfVault result (PutRefuses (F.clouds fleet.old) name (F.held fleet.old))) }
+    ensures refused { F.tells → IfPut command.now (λ name. IfVault result (PutRefuses (F.clouds fleet.old) standard name (F.held fleet.old))) }
     ensures kept { F.tells → IfPut command.now (λ name. (IsFree (F.clouds fleet.old) name (F.held fleet.old) → ⊥) → F.held fleet.new ≡ F.held fleet.old) }
+    ensures spent { IfPut command.now (λ name. HasNoCode (F.clouds fleet.old) standard name → F.held fleet.new ≡ F.held fleet.old) }
     ensures only { F.tells → IfPut command.now (λ name. ChangesOnlyName name (F.held fleet.old) (F.held fleet.new)) }
     ensures said { IfPut command.now (λ _. result ≡ Status.Ok → Appends (K.written out.old) (K.written out.new) put_output) }
     ensures said_some { IfPut command.now (λ _. result ≡ Status.WriteFault → AppendsSome (K.written out.old) (K.written out.new) put_output) }
@@ -126,7 +131,9 @@ fn perform<R: Threads + Sync, F: Fleet, S: Source, K: Sink>(
     ensures quiet { (IsDone result → ⊥) → out.new ≡ out.old }
 {
     match command {
-        Command::Put(name) => put_input(rt, alloc, fleet, name, source, out),
+        Command::Put(name) => {
+            put_input(rt, alloc, fleet, &Setting::standard(), name, source, out)
+        }
         Command::Get(name) => get(rt, alloc, fleet, name, out),
     }
 }
@@ -136,6 +143,7 @@ fn put_input<R: Threads + Sync, F: Fleet, S: Source, K: Sink>(
     rt: &R,
     alloc: Global,
     fleet: &mut F,
+    setting: &Setting,
     name: &Name,
     source: &mut S,
     out: &mut K,
@@ -143,14 +151,16 @@ fn put_input<R: Threads + Sync, F: Fleet, S: Source, K: Sink>(
     requires ready { F.ready }
     requires wide { 4 ≤ F.clouds fleet.old }
     requires narrow { F.clouds fleet.old ≤ 10 }
+    requires setting { IsSetting setting.now }
     ensures begun { IsBegun result }
     ensures early { IsEarly result → fleet.new ≡ fleet.old }
     ensures read { result ≡ Status.ReadFault → Rose (S.faults source.old) (S.faults source.new) }
     ensures input { TakesInput (S.left source.old) (S.left source.new) result }
-    ensures stored { F.tells → IsDone result → PutsInput name.now (S.left source.old) (S.left source.new) (F.clouds fleet.old) (F.held fleet.old) (F.held fleet.new) }
+    ensures stored { F.tells → IsDone result → PutsInput setting.now name.now (S.left source.old) (S.left source.new) (F.clouds fleet.old) (F.held fleet.old) (F.held fleet.new) }
     ensures free { F.tells → IsDone result → IsFree (F.clouds fleet.old) name.now (F.held fleet.old) }
-    ensures refused { F.tells → IfVault result (PutRefuses (F.clouds fleet.old) name.now (F.held fleet.old)) }
+    ensures refused { F.tells → IfVault result (PutRefuses (F.clouds fleet.old) setting.now name.now (F.held fleet.old)) }
     ensures kept { F.tells → (IsFree (F.clouds fleet.old) name.now (F.held fleet.old) → ⊥) → F.held fleet.new ≡ F.held fleet.old }
+    ensures spent { HasNoCode (F.clouds fleet.old) setting.now name.now → F.held fleet.new ≡ F.held fleet.old }
     ensures only { F.tells → ChangesOnlyName name.now (F.held fleet.old) (F.held fleet.new) }
     ensures said { result ≡ Status.Ok → Appends (K.written out.old) (K.written out.new) put_output }
     ensures said_some { result ≡ Status.WriteFault → AppendsSome (K.written out.old) (K.written out.new) put_output }
@@ -160,7 +170,7 @@ fn put_input<R: Threads + Sync, F: Fleet, S: Source, K: Sink>(
     ensures quiet { (IsDone result → ⊥) → out.new ≡ out.old }
 {
     match read_all(alloc, source) {
-        Ok(bytes) => match put(rt, alloc, fleet, name, bytes) {
+        Ok(bytes) => match put(rt, alloc, fleet, setting, name, bytes) {
             Ok(()) => match send(out, b"generation 1\n") {
                 Ok(()) => Status::Ok,
                 Err(_) => Status::WriteFault,

@@ -35,6 +35,8 @@ pub enum Fault {
     },
     /// Some cloud holds metadata of this name.
     Taken,
+    /// None of so many candidates for a code is good.
+    Spent(u16),
     /// No memory was found.
     Memory,
 }
@@ -85,6 +87,7 @@ impl Fault {
             Fault::NoFile => 3,
             Fault::Cloud(_) => 4,
             Fault::Short(_) => 5,
+            Fault::Spent(_) => 6,
             Fault::Conflict { .. } | Fault::Misplaced { .. } | Fault::Unsound { .. } => 11,
             Fault::Taken => 20,
         }

@@ -1,9 +1,14 @@
-use Rattle.std.proofs.Common.{◌∙◌, subst, ℕ, List}
+use Rattle.std.proofs.Common.{◌∙◌, refl, sym, subst, ℕ, List}
 use Rattle.nc_bytes.specs.Bytes.{AreBytes}
 use Rattle.nc_cloud.specs.Deciding.{HasCause}
 use Rattle.nc_cloud.specs.declared.deciding.RoundFault.{RoundFault}
+use Rattle.nccloud.specs.declared.status.Fault.{Fault}
+use Rattle.nccloud.specs.Drawing.{HasNoCode, IsFirstCode}
+use Rattle.nccloud.specs.Refusals.{PutRefuses}
+use Rattle.nccloud.specs.Run.{HasFaultCause}
 use Rattle.nccloud.specs.Store.{ChangesOnlyName, Stores}
 use Rattle.nc_download.proofs.FetchLaws.{later_cause}
+use Rattle.nccloud.proofs.DrawingLaws.{not_both, width_is}
 use Rattle.nccloud.proofs.KeepingLaws.{put_is_held}
 use Rattle.nccloud.proofs.PutLemmas.{widened}
 use Rattle.nccloud.proofs.SeeingLaws.{clean, free_held, put_fault, refused_cause, refused_held}
@@ -13,39 +18,79 @@ pub returns-in-Err-clause-begins : goal.returns-in-Err-clause-begins
 returns-in-Err-clause-begins g c = put_fault _ _ c.in-Err.ensures.fault
 
 pub returns-in-Err-clause-refused : goal.returns-in-Err-clause-refused
-returns-in-Err-clause-refused g c told = refused_held _ _ _ _ c.requires.wide c.requires.narrow (c.in_ok-view.ensures.told told) c.in_ok-view.ensures.width _ c.in-Err.ensures.fault
+returns-in-Err-clause-refused g c told = refused_held _ c.args.setting.now _ _ _ c.requires.wide c.requires.narrow (c.in_ok-view.ensures.told told) c.in_ok-view.ensures.width _ c.in-Err.ensures.fault
 
 pub returns-in-Err-clause-cause : goal.returns-in-Err-clause-cause
 returns-in-Err-clause-cause g c = refused_cause _ _ c.in_ok-view.ensures.width _ _ _ c.in_ok-view.ensures.failed c.in_ok-view.ensures.exact _ c.in-Err.ensures.fault
 
+-- ---- no code is found
+
+pub returns-in-Err-first_code-clause-refused : goal.returns-in-Err-first_code-clause-refused
+returns-in-Err-first_code-clause-refused g c told =
+    let n : ℕ = g.F.Fleet.clouds c.args.fleet.now in
+    let none : HasNoCode n c.args.setting.now c.args.name.now = subst (λ k. HasNoCode k c.args.setting.now c.args.name.now) (c.width.ensures ∙ c.look.ensures.clouds) c.in-Err-first_code.ensures.spent.1 in
+    subst (λ (fault : Fault). PutRefuses n c.args.setting.now c.args.name.now (g.F.Fleet.held c.args.fleet.now) fault) (sym c.in-Err-first_code.ensures.spent.0)
+    (refl, free_held _ c.args.setting.now _ _ _ c.requires.wide c.requires.narrow (c.in_ok-view.ensures.told told) c.in_ok-view.ensures.width c.in-Ok.ensures.free, none)
+
+pub returns-in-Err-first_code-clause-cause : goal.returns-in-Err-first_code-clause-cause
+returns-in-Err-first_code-clause-cause g c =
+    subst (λ (fault : Fault). HasFaultCause g.F.Fleet.counts_exactly (g.F.Fleet.clouds c.args.fleet.now) (g.F.Fleet.faults c.args.fleet.now) (g.F.Fleet.faults c.look.new.fleet) fault) (sym c.in-Err-first_code.ensures.spent.0)
+    (clean _ _ c.in_ok-view.ensures.width _ _ _ c.in_ok-view.ensures.failed c.in_ok-view.ensures.exact c.in-Ok.ensures.free.answered)
+
+-- ---- the rounds
+
 pub write_all-requires-clause-prepared : goal.write_all-requires-clause-prepared
 write_all-requires-clause-prepared g c = record {
+  good = c.in-Ok-first_code.good;
   name = c.args.name.now;
   file = c.args.bytes;
-  made = widened _ _ _ _ _ _ _ c.width-width.ensures c.in_ok-first.ensures;
+  made = widened _ _ _ _ _ _ _ _ (width_is _ _ _ _ c.in-Ok-first_code.ensures.found ∙ c.width.ensures) c.in_ok-first.ensures;
 }
 
-pub returns-in-Err-Cloud-clause-kept : goal.returns-in-Err-Cloud-clause-kept
-returns-in-Err-Cloud-clause-kept g c told taken =
-    absurd (taken (free_held _ _ _ _ c.requires.wide c.requires.narrow (c.in_ok-view.ensures.told told) c.in_ok-view.ensures.width c.in-Ok.ensures.free))
-
-pub returns-in-Err-Cloud-clause-only : goal.returns-in-Err-Cloud-clause-only
-returns-in-Err-Cloud-clause-only g c told =
-    subst (λ F. ChangesOnlyName c.args.name.now F (g.F.Fleet.held c.write_all.new.fleet)) c.look.ensures.held
-    (c.write_all.ensures.only told _ _ (widened _ _ _ _ _ _ _ c.width-width.ensures c.in_ok-first.ensures))
-
-pub returns-clause-kept : goal.returns-clause-kept
-returns-clause-kept g c told taken =
-    absurd (taken (free_held _ _ _ _ c.requires.wide c.requires.narrow (c.in_ok-view.ensures.told told) c.in_ok-view.ensures.width c.in-Ok.ensures.free))
+-- the name was free
+pub returns-in-Ok-write_all-clause-free : goal.returns-in-Ok-write_all-clause-free
+returns-in-Ok-write_all-clause-free g c told = free_held _ c.args.setting.now _ _ _ c.requires.wide c.requires.narrow (c.in_ok-view.ensures.told told) c.in_ok-view.ensures.width c.in-Ok.ensures.free
 
 pub returns-in-Ok-write_all-clause-kept : goal.returns-in-Ok-write_all-clause-kept
 returns-in-Ok-write_all-clause-kept g c told taken =
-    absurd (taken (free_held _ _ _ _ c.requires.wide c.requires.narrow (c.in_ok-view.ensures.told told) c.in_ok-view.ensures.width c.in-Ok.ensures.free))
+    absurd (taken (free_held _ c.args.setting.now _ _ _ c.requires.wide c.requires.narrow (c.in_ok-view.ensures.told told) c.in_ok-view.ensures.width c.in-Ok.ensures.free))
+
+pub returns-in-Err-Cloud-clause-kept : goal.returns-in-Err-Cloud-clause-kept
+returns-in-Err-Cloud-clause-kept g c told taken =
+    absurd (taken (free_held _ c.args.setting.now _ _ _ c.requires.wide c.requires.narrow (c.in_ok-view.ensures.told told) c.in_ok-view.ensures.width c.in-Ok.ensures.free))
+
+pub returns-clause-kept : goal.returns-clause-kept
+returns-clause-kept g c told taken =
+    absurd (taken (free_held _ c.args.setting.now _ _ _ c.requires.wide c.requires.narrow (c.in_ok-view.ensures.told told) c.in_ok-view.ensures.width c.in-Ok.ensures.free))
+
+-- and a code was found
+pub returns-in-Ok-write_all-clause-spent : goal.returns-in-Ok-write_all-clause-spent
+returns-in-Ok-write_all-clause-spent g c none =
+    absurd (not_both _ _ _ _ (subst (λ k. IsFirstCode k c.args.setting.now c.args.name.now c.in-Ok-first_code.good) (c.width.ensures ∙ c.look.ensures.clouds) c.in-Ok-first_code.ensures.found) none)
+
+pub returns-in-Err-Cloud-clause-spent : goal.returns-in-Err-Cloud-clause-spent
+returns-in-Err-Cloud-clause-spent g c none =
+    absurd (not_both _ _ _ _ (subst (λ k. IsFirstCode k c.args.setting.now c.args.name.now c.in-Ok-first_code.good) (c.width.ensures ∙ c.look.ensures.clouds) c.in-Ok-first_code.ensures.found) none)
+
+pub returns-clause-spent : goal.returns-clause-spent
+returns-clause-spent g c none =
+    absurd (not_both _ _ _ _ (subst (λ k. IsFirstCode k c.args.setting.now c.args.name.now c.in-Ok-first_code.good) (c.width.ensures ∙ c.look.ensures.clouds) c.in-Ok-first_code.ensures.found) none)
+
+-- what is held after the look is what was held
+pub returns-in-Err-Cloud-clause-only : goal.returns-in-Err-Cloud-clause-only
+returns-in-Err-Cloud-clause-only g c told =
+    subst (λ F. ChangesOnlyName c.args.name.now F (g.F.Fleet.held c.write_all.new.fleet)) c.look.ensures.held
+    (c.write_all.ensures.only told _ _ _ (widened _ _ _ _ _ _ _ _ (width_is _ _ _ _ c.in-Ok-first_code.ensures.found ∙ c.width.ensures) c.in_ok-first.ensures))
 
 pub returns-in-Ok-write_all-clause-only : goal.returns-in-Ok-write_all-clause-only
 returns-in-Ok-write_all-clause-only g c told =
     subst (λ F. ChangesOnlyName c.args.name.now F (g.F.Fleet.held c.write_all.new.fleet)) c.look.ensures.held
-    (c.write_all.ensures.only told _ _ (widened _ _ _ _ _ _ _ c.width-width.ensures c.in_ok-first.ensures))
+    (c.write_all.ensures.only told _ _ _ (widened _ _ _ _ _ _ _ _ (width_is _ _ _ _ c.in-Ok-first_code.ensures.found ∙ c.width.ensures) c.in_ok-first.ensures))
+
+pub returns-clause-only : goal.returns-clause-only
+returns-clause-only g c told =
+    subst (λ F. ChangesOnlyName c.args.name.now F (g.F.Fleet.held c.write_all.new.fleet)) c.look.ensures.held
+    (c.write_all.ensures.only told _ _ _ (widened _ _ _ _ _ _ _ _ (width_is _ _ _ _ c.in-Ok-first_code.ensures.found ∙ c.width.ensures) c.in_ok-first.ensures))
 
 -- the look has changed no count, since no place failed
 pub returns-in-Err-Cloud-clause-cause : goal.returns-in-Err-Cloud-clause-cause
@@ -59,15 +104,19 @@ returns-in-Ok-write_all-clause-clean g c told k l =
     c.in-Ok-write_all.ensures.clean told k
     ∙ clean _ _ c.in_ok-view.ensures.width _ _ _ c.in_ok-view.ensures.failed c.in_ok-view.ensures.exact c.in-Ok.ensures.free.answered told k l
 
-pub returns-in-Ok-write_all-clause-free : goal.returns-in-Ok-write_all-clause-free
-returns-in-Ok-write_all-clause-free g c told = free_held _ _ _ _ c.requires.wide c.requires.narrow (c.in_ok-view.ensures.told told) c.in_ok-view.ensures.width c.in-Ok.ensures.free
-
--- what is held after the look is what was held
 pub returns-in-Ok-write_all-clause-stored : goal.returns-in-Ok-write_all-clause-stored
 returns-in-Ok-write_all-clause-stored g c told =
-    subst (λ n. Stores n c.args.name.now c.args.bytes (g.F.Fleet.held c.args.fleet.now) (g.F.Fleet.held c.write_all.new.fleet)) c.look.ensures.clouds
-    (subst (λ F. Stores (g.F.Fleet.clouds c.look.new.fleet) c.args.name.now c.args.bytes F (g.F.Fleet.held c.write_all.new.fleet)) c.look.ensures.held
-    (c.in-Ok-write_all.ensures.stored told _ _ (widened _ _ _ _ _ _ _ c.width-width.ensures c.in_ok-first.ensures)))
-
-pub returns-in-Ok-write_all-clause-holds : goal.returns-in-Ok-write_all-clause-holds
-returns-in-Ok-write_all-clause-holds g c told = put_is_held _ _ _ _ _ c.requires.wide c.requires.narrow (subst (λ (b : List ℕ). AreBytes b) c.bytes-2.ensures c.are_bytes.ensures) (returns-in-Ok-write_all-clause-stored g c told) (returns-in-Ok-write_all-clause-free g c told)
+    let n : ℕ = g.F.Fleet.clouds c.args.fleet.now in
+    let good = c.in-Ok-first_code.good in
+    let drawn : IsFirstCode n c.args.setting.now c.args.name.now good = subst (λ k. IsFirstCode k c.args.setting.now c.args.name.now good) (c.width.ensures ∙ c.look.ensures.clouds) c.in-Ok-first_code.ensures.found in
+    let stores : Stores n good c.args.name.now c.args.bytes (g.F.Fleet.held c.args.fleet.now) (g.F.Fleet.held c.write_all.new.fleet) =
+    subst (λ k. Stores k good c.args.name.now c.args.bytes (g.F.Fleet.held c.args.fleet.now) (g.F.Fleet.held c.write_all.new.fleet)) c.look.ensures.clouds
+    (subst (λ F. Stores (g.F.Fleet.clouds c.look.new.fleet) good c.args.name.now c.args.bytes F (g.F.Fleet.held c.write_all.new.fleet)) c.look.ensures.held
+    (c.in-Ok-write_all.ensures.stored told _ _ _ (widened _ _ _ _ _ _ _ _ (width_is _ _ _ _ c.in-Ok-first_code.ensures.found ∙ c.width.ensures) c.in_ok-first.ensures))) in
+    record {
+      good = good;
+      drawn = drawn;
+      repairable = c.in-Ok-first_code.ensures.good;
+      stores = stores;
+      holds = put_is_held n good _ _ _ _ c.requires.wide c.requires.narrow c.in-Ok-first_code.ensures.good (subst (λ (b : List ℕ). AreBytes b) c.bytes-2.ensures c.are_bytes.ensures) stores (returns-in-Ok-write_all-clause-free g c told);
+    }

@@ -6,37 +6,37 @@ use Rattle.nccloud.proofs.SeeingLaws.{later_round, unchanged}
 use Rattle.nccloud.proofs.put.write_all.Goals as goal
 
 pub write_row-requires-clause-clouds : goal.write_row-requires-clause-clouds
-write_row-requires-clause-clouds g c = first_by_cloud _ _ _ _ _ _ c.requires.prepared.made
+write_row-requires-clause-clouds g c = first_by_cloud _ _ _ _ _ _ _ c.requires.prepared.made
 
 pub write_row-requires-clause-whole : goal.write_row-requires-clause-whole
 write_row-requires-clause-whole g c = c.requires.prepared.made.first_whole
 
 pub write_row-requires-2-clause-clouds : goal.write_row-requires-2-clause-clouds
-write_row-requires-2-clause-clouds g c = second_by_cloud _ _ _ _ _ _ (widened _ _ _ _ _ _ _ (sym c.write_row.ensures.clouds) c.requires.prepared.made)
+write_row-requires-2-clause-clouds g c = second_by_cloud _ _ _ _ _ _ _ (widened _ _ _ _ _ _ _ _ (sym c.write_row.ensures.clouds) c.requires.prepared.made)
 
 pub write_row-requires-2-clause-whole : goal.write_row-requires-2-clause-whole
 write_row-requires-2-clause-whole g c = c.requires.prepared.made.second_whole
 
 pub write_row-requires-3-clause-clouds : goal.write_row-requires-3-clause-clouds
 write_row-requires-3-clause-clouds g c =
-    metas_by_cloud _ _ _ _ _ _ (widened _ _ _ _ _ _ _ (sym c.write_row.ensures.clouds ∙ sym c.write_row-2.ensures.clouds) c.requires.prepared.made)
+    metas_by_cloud _ _ _ _ _ _ _ (widened _ _ _ _ _ _ _ _ (sym c.write_row.ensures.clouds ∙ sym c.write_row-2.ensures.clouds) c.requires.prepared.made)
 
 pub write_row-requires-3-clause-whole : goal.write_row-requires-3-clause-whole
 write_row-requires-3-clause-whole g c = c.requires.prepared.made.meta_whole
 
 pub returns-in_err-write_row-clause-only : goal.returns-in_err-write_row-clause-only
-returns-in_err-write_row-clause-only g c told name v made = first_only _ _ _ _ _ _ made _ _ (c.write_row.ensures.image told)
+returns-in_err-write_row-clause-only g c told good name v made = first_only _ _ _ _ _ _ _ made _ _ (c.write_row.ensures.image told)
 
 pub returns-in_err-write_row-2-clause-only : goal.returns-in_err-write_row-2-clause-only
-returns-in_err-write_row-2-clause-only g c told name v made =
-    only_then _ _ _ _ (first_only _ _ _ _ _ _ made _ _ (c.write_row.ensures.image told))
-    (second_only _ _ _ _ _ _ made _ _ (c.write_row-2.ensures.image told))
+returns-in_err-write_row-2-clause-only g c told good name v made =
+    only_then _ _ _ _ (first_only _ _ _ _ _ _ _ made _ _ (c.write_row.ensures.image told))
+    (second_only _ _ _ _ _ _ _ made _ _ (c.write_row-2.ensures.image told))
 
 pub returns-clause-only : goal.returns-clause-only
-returns-clause-only g c told name v made =
-    only_then _ _ _ _ (only_then _ _ _ _ (first_only _ _ _ _ _ _ made _ _ (c.write_row.ensures.image told))
-    (second_only _ _ _ _ _ _ made _ _ (c.write_row-2.ensures.image told)))
-    (metas_only _ _ _ _ _ _ made _ _ (c.write_row-3.ensures.image told))
+returns-clause-only g c told good name v made =
+    only_then _ _ _ _ (only_then _ _ _ _ (first_only _ _ _ _ _ _ _ made _ _ (c.write_row.ensures.image told))
+    (second_only _ _ _ _ _ _ _ made _ _ (c.write_row-2.ensures.image told)))
+    (metas_only _ _ _ _ _ _ _ made _ _ (c.write_row-3.ensures.image told))
 
 pub returns-clause-stored : goal.returns-clause-stored
 returns-clause-stored g c told =

@@ -1,0 +1,188 @@
+#!/usr/bin/env python3
+"""Writes the objects that a put of a new file leaves on each cloud, as docs/FORMATS.md describes them:
+
+    plain.py FOLDER,FOLDER,.. NAME < FILE
+
+It shares no code with the program, and is as plain as it can be. Codes are drawn as the program draws them where nothing
+else is chosen: from a seed of 32 zero bytes, and from 64 candidates at most."""
+import sys
+from hashlib import sha256
+from itertools import combinations
+from struct import pack, unpack
+
+SEED = bytes(32)
+BUDGET = 64
+
+
+# ---- the field
+
+def product(a, b):
+    total = 0
+    while b:
+        if b % 2:
+            total ^= a
+        a = 2 * a if a < 128 else 2 * a ^ 0x11D
+        b //= 2
+    return total
+
+
+# TIMES[a] has at place b the product of a and b.
+TIMES = [bytes(product(a, b) for b in range(256)) for a in range(256)]
+
+
+def combination(factors, parts):
+    """The sum of these parts of one length, each times its factor."""
+    total = 0
+    for factor, part in zip(factors, parts):
+        total ^= int.from_bytes(part.translate(TIMES[factor]), "big")
+    return total.to_bytes(len(parts[0]), "big")
+
+
+def are_independent(rows):
+    """Whether a square of rows has an inverse: each column in turn finds a row to be cleared with."""
+    for column in range(len(rows)):
+        pivot = next((row for row in rows if row[column]), None)
+        if pivot is None:
+            return False
+        inverse = TIMES[pivot[column]].index(1)
+        rows = [combination((1, TIMES[row[column]][inverse]), (row, pivot)) for row in rows if row is not pivot]
+    return True
+
+
+# ---- codes: a code is the list of its rows, row r of cloud c at place 2c+r
+
+def striped(width):
+    natives = range(2 * (width - 2))
+    rows = [[int(i == k) for i in natives] for k in natives]
+    rows += [[int(i % 2 == s) for i in natives] for s in (0, 1)]
+    rows += [[2 ** (i // 2) * (i % 2 == s) for i in natives] for s in (0, 1)]
+    return [bytes(row) for row in rows]
+
+
+def is_mds(rows):
+    """Whether the rows of all clouds but any two are independent."""
+    clouds = range(len(rows) // 2)
+    return all(are_independent([row for i, row in enumerate(rows) if i // 2 not in pair]) for pair in combinations(clouds, 2))
+
+
+def repaired(rows, lost, plan):
+    """The code after the repair of a cloud. A plan has the choices of the survivors, then their factors for either row."""
+    survivors = [cloud for cloud in range(len(rows) // 2) if cloud != lost]
+    n = len(survivors)
+    fetched = [rows[2 * cloud + choice] for cloud, choice in zip(survivors, plan)]
+    new = [combination(plan[n:2 * n], fetched), combination(plan[2 * n:], fetched)]
+    return rows[:2 * lost] + new + rows[2 * lost + 2:]
+
+
+def read_plan(width, data):
+    """The plan of plan bytes, where the base is 0."""
+    return bytes(position == data[0] % 16 for position in range(width - 1)) + data[1:]
+
+
+# ---- draws
+
+def chacha20(key, counter):
+    """64 bytes of the stream of a key."""
+    start = list(unpack("<12I", b"expand 32-byte k" + key)) + [counter, 0, 0, 0]
+    words = start[:]
+
+    def turn(a, b, c, bits):
+        """Adds word b to word a, and that to word c, turned."""
+        words[a] = (words[a] + words[b]) % 2 ** 32
+        mixed = words[c] ^ words[a]
+        words[c] = (mixed << bits | mixed >> 32 - bits) % 2 ** 32
+
+    for _ in range(10):
+        for step in (0, 1):  # columns, diagonals
+            for i in range(4):
+                a, b, c, d = (4 * row + (i + row * step) % 4 for row in range(4))
+                turn(a, b, d, 16)
+                turn(c, d, b, 12)
+                turn(a, b, d, 8)
+                turn(c, d, b, 7)
+    return pack("<16I", *((a + b) % 2 ** 32 for a, b in zip(start, words)))
+
+
+def candidate_block(key, index, length):
+    """The block of a candidate: so many bytes from its word on."""
+    start = index * -(-length // 4) * 4
+    stream = b"".join(chacha20(key, counter) for counter in range(start // 64, (start + length) // 64 + 1))
+    return stream[start % 64:][:length]
+
+
+def draw_key(seed, name, generation):
+    return sha256(seed + name + pack(">Q", generation)).digest()
+
+
+def candidate(width, key, index):
+    """The rows of a candidate and its plan for each loss, where it is good."""
+    natives, each = 2 * (width - 2), 1 + 2 * (width - 1)
+    block = candidate_block(key, index, 2 * width * natives + width * 16 * each)
+    rows = [block[i * natives:(i + 1) * natives] for i in range(2 * width)]
+    if not is_mds(rows):
+        return None
+    plans = []
+    for lost in range(width):
+        starts = (2 * width * natives + (16 * lost + number) * each for number in range(16))
+        tries = (read_plan(width, block[start:start + each]) for start in starts)
+        plan = next((plan for plan in tries if is_mds(repaired(rows, lost, plan))), None)
+        if plan is None:
+            return None
+        plans.append(plan)
+    return rows, plans
+
+
+def find_start(width, key, budget):
+    """The index of the first good candidate, its rows and its plans."""
+    for index in range(budget):
+        good = candidate(width, key, index)
+        if good:
+            return index, *good
+    sys.exit(f"none of {budget} candidates is good")
+
+
+# ---- objects
+
+def cut(width, data):
+    natives = 2 * (width - 2)
+    size = -(-len(data) // natives)
+    data += bytes(natives * size - len(data))
+    return [data[i * size:(i + 1) * size] for i in range(natives)]
+
+
+def frame(cloud, width, key, payload):
+    bare = b"NCF1" + bytes([cloud, width]) + pack(">H", len(key)) + key + pack(">Q", len(payload)) + payload
+    return bare + sha256(bare).digest()
+
+
+def metadata(width, rows, plans, length, chunks):
+    head = b"NCM1" + bytes([1]) + pack(">QQ", 1, length)
+    marks = b"".join(sha256(chunk).digest() for chunk in chunks)
+    return head + b"".join(rows) + bytes(width) + marks + bytes([bool(plans)]) + b"".join(plans)
+
+
+def objects(rows, plans, name, data):
+    """What each cloud holds of a new file: frames by their keys' texts."""
+    width = len(rows) // 2
+    natives = cut(width, data)
+    chunks = [combination(row, natives) for row in rows]
+    payload = metadata(width, rows, plans, len(data), chunks)
+    clouds = []
+    for cloud in range(width):
+        payloads = {f"c-{name.hex()}-0-{row}": chunks[2 * cloud + row] for row in (0, 1)}
+        payloads[f"m-{name.hex()}-1"] = payload
+        clouds.append({key: frame(cloud, width, key.encode(), payloads[key]) for key in payloads})
+    return clouds
+
+
+def main():
+    folders, name = sys.argv[1].split(","), sys.argv[2].encode()
+    _, rows, plans = find_start(len(folders), draw_key(SEED, name, 1), BUDGET)
+    for folder, held in zip(folders, objects(rows, plans, name, sys.stdin.buffer.read())):
+        for key, bytes_of in held.items():
+            with open(f"{folder}/{key}", "wb") as file:
+                file.write(bytes_of)
+
+
+if __name__ == "__main__":
+    main()
