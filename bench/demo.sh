@@ -87,6 +87,9 @@ show 20 "put under the same name: it is taken" "$big" put empty
 printf x >"$scratch/byte"
 show 0 "put of a byte" "$scratch/byte" put byte
 output=/dev/full show 9 "get of it to a full device: the output failed" "$scratch/empty" get byte
+output=/dev/full show 9 "put of a byte whose answer goes to a full device: the output failed" "$scratch/byte" put told
+show 0 "get of it: the file was stored" "$scratch/empty" get told
+same "$scratch/byte"
 show 0 "put of 64 MiB, the longest file" "$scratch/longest" put longest
 show 0 "get of it" "$scratch/empty" get longest
 same "$scratch/longest"

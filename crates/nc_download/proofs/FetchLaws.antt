@@ -10,7 +10,7 @@ use Rattle.nc_settle.specs.Looking.{HasWidth, Sees, FailuresRose, OnlyFailuresRo
 use Rattle.nc_settle.specs.Decisions.{NoneFailed}
 use Rattle.nc_settle.proofs.Seen.{none_held, top_is_highest, undisputed, disputed, nothing_misplaced, least_misplaced_held}
 use Rattle.nc_download.specs.Showing.{Shows, Refuses}
-use Rattle.nc_download.specs.Fetching.{Shown, ComesBack, IsShortOf, Fetches, HasFetchCause}
+use Rattle.nc_download.specs.Fetching.{Shown, ComesBack, IsShortOf, Fetches, HasFetchCause, ReadsNoChunk}
 use Rattle.nc_download.specs.Reading.{HoldsEnough, SoundFor, AreTooMany}
 use Rattle.nc_download.specs.declared.short.Bad.{Bad}
 use Rattle.nc_download.specs.declared.fetching.FetchFault.{FetchFault}
@@ -55,6 +55,16 @@ module _ (n : ℕ) (v : Places) (width : HasWidth n v) (exact : Type 0) (before 
   refused_cause (Short bads) is = absurd is
   refused_cause (Unsound a b) is = absurd is
   refused_cause Memory is = absurd is
+
+-- where nothing was read, no chunk was
+pub nothing_read : (before now : ℕ → ℕ) (fault : FetchFault) → ((c : ℕ) → now c ≡ before c) → ReadsNoChunk before now fault
+nothing_read before now NoFile same = same
+nothing_read before now (Conflict g a b) same = same
+nothing_read before now (Misplaced d a b) same = same
+nothing_read before now (Unsound a b) same = same
+nothing_read before now (Cloud c) same = tt
+nothing_read before now (Short bads) same = tt
+nothing_read before now Memory same = tt
 
 -- counts that grew and then rose have risen
 pub rose_more : (a b c : ℕ) → a ≤ b → Rose b c → Rose a c

@@ -67,3 +67,13 @@ HasFetchCause exact n before now (fault.Short bads) = exact → (c : ℕ) → c 
 HasFetchCause exact n before now (fault.Conflict g a b) = exact → (c : ℕ) → c < n → now c ≡ before c
 HasFetchCause exact n before now (fault.Misplaced d a b) = exact → (c : ℕ) → c < n → now c ≡ before c
 HasFetchCause exact n before now (fault.Unsound a b) = exact → (c : ℕ) → c < n → now c ≡ before c
+
+-- A fault that the metadata shows comes before any chunk is read: no cloud's count of given chunks rose.
+abbrev pub ReadsNoChunk : (ℕ → ℕ) → (ℕ → ℕ) → FetchFault → Type 0
+ReadsNoChunk before now fault.NoFile = (c : ℕ) → now c ≡ before c
+ReadsNoChunk before now (fault.Conflict g a b) = (c : ℕ) → now c ≡ before c
+ReadsNoChunk before now (fault.Misplaced d a b) = (c : ℕ) → now c ≡ before c
+ReadsNoChunk before now (fault.Unsound a b) = (c : ℕ) → now c ≡ before c
+ReadsNoChunk before now (fault.Cloud c) = Unit {0}
+ReadsNoChunk before now (fault.Short bads) = Unit {0}
+ReadsNoChunk before now fault.Memory = Unit {0}

@@ -1,6 +1,6 @@
 ghost use Rattle.std.specs.Prelude.{◌<◌, ◌≡◌, ◌≤◌, ℕ, List, IfErr, IfOk, OnOk, length};
 ghost use Rattle.nc_cloud.specs.Contents.{Grows};
-ghost use Rattle.nc_download.specs.Fetching.{Fetches, HasFetchCause};
+ghost use Rattle.nc_download.specs.Fetching.{Fetches, HasFetchCause, ReadsNoChunk};
 ghost use Rattle.nc_meta.specs.declared.meta.Live.{Live as LiveMeta};
 ghost use Rattle.nc_download.specs.Giving.{GivesFile, IsHeld};
 ghost use Rattle.nc_download.specs.Showing.{Refuses, RefusesNothing, Shows};
@@ -72,6 +72,7 @@ pub fn fetch<R: Threads + Sync, F: Fleet>(
     ensures gives { F.tells → (meta : LiveMeta) (v : List ℕ) → IsHeld (F.clouds fleet.old) name.now meta v (F.held fleet.old) → GivesFile v result }
     ensures cause { IfErr result (HasFetchCause F.counts_exactly (F.clouds fleet.old) (F.faults fleet.old) (F.faults fleet.new)) }
     ensures clean { F.counts_exactly → OnOk result ((c : ℕ) → c < F.clouds fleet.old → F.faults fleet.new c ≡ F.faults fleet.old c) }
+    ensures unread { IfErr result (ReadsNoChunk (F.chunk_gets fleet.old) (F.chunk_gets fleet.new)) }
     ensures clouds { F.clouds fleet.new ≡ F.clouds fleet.old }
     ensures held { F.held fleet.new ≡ F.held fleet.old }
     ensures grows { Grows (F.faults fleet.old) (F.faults fleet.new) }

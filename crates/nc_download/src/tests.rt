@@ -1,12 +1,18 @@
-ghost use Rattle.std.specs.Prelude.{◌≡◌, ◌≤◌, ◌<◌, IfOk};
+ghost use Rattle.std.specs.Prelude.{◌≡◌, ◌≤◌, ◌<◌, ◌+◌, ◌*◌, IfOk, All, AllPairs, length};
 ghost use Rattle.nc_cloud.specs.Memory.{width_of};
+ghost use Rattle.nc_code.specs.Codes.{IsMds};
+ghost use Rattle.nc_mix.specs.Decoding.{IsBefore, IsLong};
+ghost use Rattle.nc_native.specs.Native.{chunk_size};
 
 use crate::{Bad, How, ReadFault, Why, read_file};
 use nc_cloud::MemFleet;
+use nc_code::{Code, striped};
 use nc_frame::seal;
 use nc_mds::{Verdict, check};
 use nc_meta::Meta;
+use nc_mix::{Open, Piece, decode, encode};
 use nc_name::{Blob, Key, Memory, Name};
+use nc_native::{chunk_size, cut};
 use sha2::{Digest, Sha256};
 use std::alloc::Global;
 use std::test::Fail;
@@ -183,4 +189,121 @@ fn each_bad_cloud_is_told_by_its_first_cause(rt: HostRuntime) -> Result<(), Fail
         }
         _ => Err(Fail::from("not short")),
     }
+}
+
+/// The piece of a cloud, whose chunks have `size` bytes.
+fn piece(alloc: Global, cloud: u8, zero: &[u8], one: &[u8], size: usize) -> Result<Piece, Fail>
+    ensures cloud { IfOk result (λ x. x.cloud ≡ cloud) }
+    ensures long { IfOk result (IsLong size) }
+{
+    if zero.len() != size {
+        return Err(Fail::from("row 0 has another size"));
+    }
+    if one.len() != size {
+        return Err(Fail::from("row 1 has another size"));
+    }
+    let zero = Blob::from_slice(alloc, zero)?;
+    let one = Blob::from_slice(alloc, one)?;
+    Ok(Piece { cloud, zero, one })
+}
+
+/// The pieces of all clouds but `a` and `b`, ascending.
+fn pieces_without(
+    alloc: Global,
+    chunks: &[Blob],
+    width: u8,
+    size: usize,
+    a: u8,
+    b: u8,
+) -> Result<Vec<Piece>, Fail>
+    requires { length chunks.now ≡ 2 * width }
+    ensures ascending { IfOk result (λ v. AllPairs IsBefore v.items) }
+    ensures in_width { IfOk result (λ v. All (λ x. x.cloud < width) v.items) }
+    ensures long { IfOk result (λ v. All (IsLong size) v.items) }
+{
+    let mut pieces = Vec::new(alloc);
+    for cloud in 0..width {
+        if cloud != a {
+            if cloud != b {
+                let zero = chunks[2 * cloud as usize].bytes();
+                let one = chunks[2 * cloud as usize + 1].bytes();
+                pieces.push(piece(alloc, cloud, zero, one, size)?)?;
+            }
+        }
+    }
+    Ok(pieces)
+}
+
+/// Whether the file comes back without the clouds `a` and `b`.
+fn comes_back<R: Threads + Sync>(
+    rt: &R,
+    alloc: Global,
+    chunks: &[Blob],
+    code: &Code,
+    file: &[u8],
+    a: u8,
+    b: u8,
+) -> Result<bool, Fail>
+    requires mds { IsMds code.now }
+    requires count { length chunks.now ≡ 2 * code.now.width }
+{
+    let width = code.width();
+    let len = file.len() as u64;
+    let size = chunk_size(len, width) as usize;
+    let pieces = pieces_without(alloc, chunks, width, size, a, b)?;
+    if pieces.len() + 2 != width as usize {
+        return Err(Fail::from("not all but two clouds"));
+    }
+    let found = decode(rt, alloc, &pieces, code, len, 2, &Open)?;
+    Ok(found.bytes() == file)
+}
+
+/// How many pairs of clouds may be lost of these chunks of a file.
+fn pairs_of<R: Threads + Sync>(
+    rt: &R,
+    alloc: Global,
+    chunks: &[Blob],
+    code: &Code,
+    file: &[u8],
+) -> Result<u8, Fail>
+    requires mds { IsMds code.now }
+    requires count { length chunks.now ≡ 2 * code.now.width }
+{
+    let mut count: u8 = 0;
+    for b in 1..code.width() {
+        for a in 0..b {
+            if comes_back(rt, alloc, chunks, code, file, a, b)? {
+                count = count.saturating_add(1);
+            }
+        }
+    }
+    Ok(count)
+}
+
+/// How many pairs of clouds may be lost of the striped chunks of so many bytes.
+fn pairs_to_lose<R: Threads + Sync>(rt: &R, alloc: Global, width: u8, len: u32) -> Result<u8, Fail>
+    requires wide { 4 ≤ width }
+    requires narrow { width ≤ 10 }
+{
+    let mut file = Vec::new(alloc);
+    for i in 0..len {
+        file.push((i % 251) as u8)?;
+    }
+    let code = striped(width);
+    let natives = cut(alloc, &file, width)?;
+    let chunks = encode(rt, alloc, &natives, &code, 2, &Open)?;
+    match check(&code) {
+        Verdict::Mds => pairs_of(rt, alloc, chunks.items(), &code, &file),
+        Verdict::Fails { .. } => Err(Fail::from("the striped code is not MDS")),
+    }
+}
+
+#[test]
+fn what_was_mixed_comes_back_from_all_but_any_two_clouds(rt: HostRuntime) -> Result<(), Fail> {
+    for len in [0u32, 1, 8, 100_003] {
+        assert_eq!(rt; pairs_to_lose(&rt, rt.alloc(), 4, len)?, 6, "{len} bytes");
+        assert_eq!(rt; pairs_to_lose(&rt, rt.alloc(), 7, len)?, 21, "{len} bytes");
+        assert_eq!(rt; pairs_to_lose(&rt, rt.alloc(), 10, len)?, 45, "{len} bytes");
+    }
+    Ok(())
 }

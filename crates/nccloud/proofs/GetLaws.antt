@@ -1,11 +1,11 @@
 -- A get that was refused, where the clouds hold the file.
 use Rattle.std.proofs.Common.{ℕ, Option, List, Err}
-use Rattle.nc_download.specs.Fetching.{HasFetchCause}
+use Rattle.nc_download.specs.Fetching.{HasFetchCause, ReadsNoChunk as FetchReadsNoChunk}
 use Rattle.nc_download.specs.Giving.{GivesFile}
 use Rattle.nc_download.specs.declared.fetching.FetchFault.{FetchFault}
 use Rattle.nc_download.specs.declared.fetching.FetchFault.TheVariants.{NoFile, Cloud, Short, Conflict, Misplaced, Unsound, Memory}
 use Rattle.nccloud.specs.declared.status.Status.TheVariants.{Vault}
-use Rattle.nccloud.specs.Got.{Gives, NoneRose}
+use Rattle.nccloud.specs.Got.{Gives, NoneRose, ReadsNoChunk}
 use Rattle.nccloud.specs.Status.{fault_of_fetch}
 
 -- only no memory is left
@@ -17,3 +17,13 @@ refused_gives exact n before now v old new (Short bads) none cause gives = gives
 refused_gives exact n before now v old new (Conflict g a b) none cause gives = gives
 refused_gives exact n before now v old new (Misplaced c a b) none cause gives = gives
 refused_gives exact n before now v old new (Unsound a b) none cause gives = gives
+
+-- no chunk was read before a fault that the metadata shows
+pub refused_unread : (before now : ℕ → ℕ) (fault : FetchFault) → FetchReadsNoChunk before now fault → ReadsNoChunk before now (fault_of_fetch fault)
+refused_unread before now NoFile same = same
+refused_unread before now (Conflict g a b) same = same
+refused_unread before now (Misplaced c a b) same = same
+refused_unread before now (Unsound a b) same = same
+refused_unread before now (Cloud c) same = same
+refused_unread before now (Short bads) same = same
+refused_unread before now Memory same = same

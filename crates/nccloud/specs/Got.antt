@@ -1,5 +1,5 @@
 -- What get answers.
-use Rattle.std.specs.Prelude.{ℕ, Option, List, Ok as Fetched, Err}
+use Rattle.std.specs.Prelude.{ℕ, ◌≡◌, Option, List, Ok as Fetched, Err}
 use Rattle.std.specs.Io.KnownBytes.{Appends}
 use Rattle.nc_cloud.specs.Contents.{Contents, Rose}
 use Rattle.nc_download.specs.declared.fetching.FetchFault.TheVariants as fetch
@@ -40,6 +40,18 @@ GetAnswers n name F before now Usage = Unit {0}
 GetAnswers n name F before now (Name f) = Unit {0}
 GetAnswers n name F before now TooLong = ⊥
 GetAnswers n name F before now ReadFault = ⊥
+
+-- A fault that the metadata shows comes before any chunk is read: no cloud's count of given chunks rose.
+abbrev pub ReadsNoChunk : (ℕ → ℕ) → (ℕ → ℕ) → Fault → Type 0
+ReadsNoChunk before now fault.NoFile = (c : ℕ) → now c ≡ before c
+ReadsNoChunk before now (fault.Conflict g a b) = (c : ℕ) → now c ≡ before c
+ReadsNoChunk before now (fault.Misplaced d a b) = (c : ℕ) → now c ≡ before c
+ReadsNoChunk before now (fault.Unsound a b) = (c : ℕ) → now c ≡ before c
+ReadsNoChunk before now (fault.Cloud c) = Unit {0}
+ReadsNoChunk before now (fault.Short list) = Unit {0}
+ReadsNoChunk before now fault.Memory = Unit {0}
+ReadsNoChunk before now fault.Taken = ⊥
+ReadsNoChunk before now (fault.Spent tried) = ⊥
 
 -- no count rose
 abbrev pub NoneRose : (ℕ → ℕ) → (ℕ → ℕ) → Type 0

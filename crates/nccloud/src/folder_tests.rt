@@ -3,6 +3,7 @@
 use crate::fixtures::{failing_cloud, get_into, gives, mixed, put_bytes};
 use crate::folders;
 use crate::memory::MemSink;
+use crate::status::Status;
 use nc_cloud::{Fanned, Fleet};
 use nc_folder::FolderCloud;
 use nc_name::{Blob, Memory};
@@ -80,5 +81,50 @@ fn what_is_no_folder_fails(rt: HostRuntime) -> Result<(), Fail> {
     fs::write(&rt, "scratch_gone/1", "no folder")?;
     assert_eq!(rt; failing(&rt, &mut fleet)?, Some(1));
     fs::remove_dir_all(&rt, "scratch_gone")?;
+    Ok(())
+}
+
+#[test]
+fn an_empty_path_is_a_cloud_that_fails(rt: HostRuntime) -> Result<(), Fail> {
+    let mut fleet = Fanned::new(rt, rt.alloc(), clouds_of(rt, ",,,")?)?;
+    assert_eq!(rt; failing(&rt, &mut fleet)?, Some(0));
+    Ok(())
+}
+
+/// The number of clouds that a put over these is refused for.
+fn refused_width<R: Threads + Sync + AllocGlobal, F: Fleet>(
+    rt: &R,
+    fleet: &mut F,
+) -> Result<Option<usize>, Fail>
+    requires ready { F.ready }
+{
+    match put_bytes(rt, fleet, Blob::from_slice(rt.alloc(), b"abc")?)? {
+        Status::Width(width) => Ok(Some(width)),
+        _ => Ok(None),
+    }
+}
+
+#[test]
+fn too_few_or_too_many_folders_are_told_and_none_is_made(rt: HostRuntime) -> Result<(), Fail> {
+    if fs::exists(&rt, "scratch_width")? {
+        fs::remove_dir_all(&rt, "scratch_width")?;
+    }
+    fs::create_dir(&rt, "scratch_width")?;
+    let none: [String; 0] = [];
+    let mut fleet = Fanned::new(rt, rt.alloc(), folders(rt, &none)?)?;
+    assert_eq!(rt; refused_width(&rt, &mut fleet)?, Some(0));
+    for (list, width) in [
+        ("", 1),
+        ("scratch_width/0,scratch_width/1,scratch_width/2", 3),
+        (
+            "scratch_width/0,scratch_width/1,scratch_width/2,scratch_width/3,scratch_width/4,scratch_width/5,scratch_width/6,scratch_width/7,scratch_width/8,scratch_width/9,scratch_width/10",
+            11,
+        ),
+    ] {
+        let mut fleet = Fanned::new(rt, rt.alloc(), clouds_of(rt, list)?)?;
+        assert_eq!(rt; refused_width(&rt, &mut fleet)?, Some(width), "{list}");
+    }
+    // a folder that isn't empty can't be removed
+    fs::remove_dir(&rt, "scratch_width")?;
     Ok(())
 }

@@ -1,10 +1,12 @@
 //! `get` of a file.
 ghost use Rattle.std.specs.Prelude.{◌≡◌, ◌≤◌};
 ghost use Rattle.nc_cloud.specs.Contents.{Rose, Grows};
-ghost use Rattle.nccloud.specs.Got.{GetAnswers, GivesHeld};
+ghost use Rattle.nccloud.specs.Got.{GetAnswers, GivesHeld, ReadsNoChunk};
 ghost use Rattle.nccloud.specs.Run.{IfVault, IsDone, IsGot, HasFaultCause, StaysClean};
+ghost use Rattle.nccloud.specs.Settings.{IsSetting};
 
 use crate::output::send;
+use crate::setting::Setting;
 use crate::sink::Sink;
 use crate::status::{Fault, Status};
 use nc_cloud::Fleet;
@@ -18,15 +20,18 @@ pub fn get<R: Threads + Sync, F: Fleet, K: Sink>(
     rt: &R,
     alloc: Global,
     fleet: &mut F,
+    setting: &Setting,
     name: &Name,
     out: &mut K,
 ) -> Status
     requires ready { F.ready }
     requires wide { 4 ≤ F.clouds fleet.old }
     requires narrow { F.clouds fleet.old ≤ 10 }
+    requires setting { IsSetting setting.now }
     ensures begun { IsGot result }
     ensures answers { F.tells → GetAnswers (F.clouds fleet.old) name.now (F.held fleet.old) (K.written out.old) (K.written out.new) result }
     ensures gives { F.tells → GivesHeld (F.clouds fleet.old) name.now (F.held fleet.old) (F.faults fleet.old) (F.faults fleet.new) (K.written out.old) (K.written out.new) result }
+    ensures unread { IfVault result (ReadsNoChunk (F.chunk_gets fleet.old) (F.chunk_gets fleet.new)) }
     ensures write { result ≡ Status.WriteFault → Rose (K.faults out.old) (K.faults out.new) }
     ensures quiet { (IsDone result → ⊥) → out.new ≡ out.old }
     ensures cause { IfVault result (HasFaultCause F.counts_exactly (F.clouds fleet.old) (F.faults fleet.old) (F.faults fleet.new)) }
@@ -35,7 +40,7 @@ pub fn get<R: Threads + Sync, F: Fleet, K: Sink>(
     ensures clouds { F.clouds fleet.new ≡ F.clouds fleet.old }
     ensures grows { Grows (F.faults fleet.old) (F.faults fleet.new) }
 {
-    match fetch(rt, alloc, fleet, name, 1) {
+    match fetch(rt, alloc, fleet, name, setting.workers) {
         Ok(file) => match send(out, file.bytes()) {
             Ok(()) => Status::Ok,
             Err(_) => Status::WriteFault,

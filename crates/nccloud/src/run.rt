@@ -5,7 +5,7 @@ ghost use Rattle.nc_name.specs.Names.{IsName};
 ghost use Rattle.nc_name.specs.declared.name.NameFault.{NameFault as NameCause};
 ghost use Rattle.nc_cloud.specs.Contents.{Rose};
 ghost use Rattle.nccloud.specs.Drawing.{HasNoCode};
-ghost use Rattle.nccloud.specs.Got.{GetAnswers, GivesHeld};
+ghost use Rattle.nccloud.specs.Got.{GetAnswers, GivesHeld, ReadsNoChunk};
 ghost use Rattle.nccloud.specs.Output.{AppendsSome};
 ghost use Rattle.nccloud.specs.Refusals.{IsFree, PutRefuses};
 ghost use Rattle.nccloud.specs.Run.{IsWide, HasBadName, IsBegun, IsEarly, IsDone, IfVault, HasFaultCause, StaysClean, TakesInput, PutsInput};
@@ -63,6 +63,7 @@ pub fn run<R: Threads + Sync, F: Fleet, S: Source, K: Sink, E: Sink>(
     ensures got { F.tells → (text : List ℕ) → map string_bytes words.now ≡ get_words text → GetAnswers (F.clouds fleet.old) text (F.held fleet.old) (K.written out.old) (K.written out.new) result }
     ensures gives { F.tells → (text : List ℕ) → map string_bytes words.now ≡ get_words text → IsBegun result → GivesHeld (F.clouds fleet.old) text (F.held fleet.old) (F.faults fleet.old) (F.faults fleet.new) (K.written out.old) (K.written out.new) result }
     ensures held { (text : List ℕ) → map string_bytes words.now ≡ get_words text → F.held fleet.new ≡ F.held fleet.old }
+    ensures unread { (text : List ℕ) → map string_bytes words.now ≡ get_words text → IfVault result (ReadsNoChunk (F.chunk_gets fleet.old) (F.chunk_gets fleet.new)) }
     ensures no_input { (text : List ℕ) → map string_bytes words.now ≡ get_words text → source.new ≡ source.old }
 
     // both
@@ -122,6 +123,7 @@ fn perform<R: Threads + Sync, F: Fleet, S: Source, K: Sink>(
     ensures got { F.tells → IfGet command.now (λ name. GetAnswers (F.clouds fleet.old) name (F.held fleet.old) (K.written out.old) (K.written out.new) result) }
     ensures gives { F.tells → IfGet command.now (λ name. GivesHeld (F.clouds fleet.old) name (F.held fleet.old) (F.faults fleet.old) (F.faults fleet.new) (K.written out.old) (K.written out.new) result) }
     ensures held { IfGet command.now (λ _. F.held fleet.new ≡ F.held fleet.old) }
+    ensures unread { IfGet command.now (λ _. IfVault result (ReadsNoChunk (F.chunk_gets fleet.old) (F.chunk_gets fleet.new))) }
     ensures no_input { IfGet command.now (λ _. source.new ≡ source.old) }
 
     // both
@@ -130,11 +132,10 @@ fn perform<R: Threads + Sync, F: Fleet, S: Source, K: Sink>(
     ensures write { result ≡ Status.WriteFault → Rose (K.faults out.old) (K.faults out.new) }
     ensures quiet { (IsDone result → ⊥) → out.new ≡ out.old }
 {
+    let setting = Setting::standard();
     match command {
-        Command::Put(name) => {
-            put_input(rt, alloc, fleet, &Setting::standard(), name, source, out)
-        }
-        Command::Get(name) => get(rt, alloc, fleet, name, out),
+        Command::Put(name) => put_input(rt, alloc, fleet, &setting, name, source, out),
+        Command::Get(name) => get(rt, alloc, fleet, &setting, name, out),
     }
 }
 

@@ -47,6 +47,13 @@ fn other_words_are_usage(rt: HostRuntime) -> Result<(), Fail> {
         assert!(rt; matches!(status, Status::Usage), "{command}");
         assert_eq!(rt; status.code(), 2, "{command}");
     }
+    for status in [
+        refused(&rt, &["--budget", "0", "ls"], 4)?,
+        refused(&rt, &["repair", "4"], 4)?,
+        refused(&rt, &["restore", "1", "1"], 4)?,
+    ] {
+        assert!(rt; matches!(status, Status::Usage), "{status:?}");
+    }
     Ok(())
 }
 
@@ -89,6 +96,8 @@ fn fewer_than_four_or_more_than_ten_clouds_are_told(rt: HostRuntime) -> Result<(
             assert_eq!(rt; status.code(), 2, "{width} clouds");
         }
     }
+    let none: [&str; 0] = [];
+    assert!(rt; matches!(refused(&rt, &none, 3)?, Status::Width(3)));
     Ok(())
 }
 

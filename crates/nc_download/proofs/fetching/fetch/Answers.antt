@@ -2,7 +2,7 @@ use Rattle.std.proofs.Common.{◌∙◌, subst, Ok, Err}
 use Rattle.nc_download.specs.declared.fetching.FetchFault.TheVariants.{Short, Unsound}
 use Rattle.nc_download.specs.declared.reading.ReadFault.{ReadFault}
 use Rattle.nc_download.specs.Reading.{HasReadCause, IsShort}
-use Rattle.nc_download.proofs.FetchLaws.{shown_held, refused_held, clean, refused_cause, later_cause, comes_back, short_of}
+use Rattle.nc_download.proofs.FetchLaws.{shown_held, refused_held, clean, refused_cause, later_cause, comes_back, nothing_read, short_of}
 use Rattle.nc_download.proofs.GivingLaws.{gives}
 use Rattle.nc_download.proofs.fetching.fetch.Goals as goal
 
@@ -56,3 +56,6 @@ returns-in-Ok-read_file-clause-gives g c told meta v held = gives _ _ _ _ _ c.re
 
 pub returns-in-Err-Short-clause-gives : goal.returns-in-Err-Short-clause-gives
 returns-in-Err-Short-clause-gives g c told meta v held = gives _ _ _ _ _ c.requires.wide c.requires.narrow held (Err (Short c.in-Err-Short.bad)) (returns-in-Err-Short-clause-fetches g c told)
+
+pub returns-in-Err-clause-unread : goal.returns-in-Err-clause-unread
+returns-in-Err-clause-unread g c = nothing_read _ _ c.in-Err.fault c.in_ok-view.ensures.gets

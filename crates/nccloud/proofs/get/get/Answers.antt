@@ -2,9 +2,9 @@ use Rattle.std.proofs.Common.{List, ℕ, subst, sym, ◌∙◌}
 use Rattle.std.specs.Io.KnownBytes.{Appends}
 use Rattle.nccloud.specs.declared.status.Fault.{Fault}
 use Rattle.nccloud.specs.declared.status.Status.TheVariants.{Vault}
-use Rattle.nccloud.specs.Got.{Gives}
+use Rattle.nccloud.specs.Got.{Gives, ReadsNoChunk}
 use Rattle.nccloud.specs.Output.{AppendsSome}
-use Rattle.nccloud.proofs.GetLaws.{refused_gives}
+use Rattle.nccloud.proofs.GetLaws.{refused_gives, refused_unread}
 use Rattle.nccloud.proofs.get.get.Goals as goal
 
 pub returns-in-Ok-send-clause-gives : goal.returns-in-Ok-send-clause-gives
@@ -25,3 +25,8 @@ returns-clause-gives g c told = record {
       subst (λ (f : Fault). Gives v (g.K.Sink.written c.args.out.now) (g.K.Sink.written c.args.out.now) (Vault f)) (sym c.from.ensures)
       (refused_gives g.F.Fleet.counts_exactly (g.F.Fleet.clouds c.args.fleet.now) _ _ v (g.K.Sink.written c.args.out.now) (g.K.Sink.written c.args.out.now) c.in-Err.fault none c.in-Err.ensures.cause (c.in-Err.ensures.gives told meta v held));
 }
+
+pub returns-clause-unread : goal.returns-clause-unread
+returns-clause-unread g c =
+    subst (λ (f : Fault). ReadsNoChunk (g.F.Fleet.chunk_gets c.args.fleet.now) (g.F.Fleet.chunk_gets c.fetch.new.fleet) f) (sym c.from.ensures)
+    (refused_unread _ _ c.in-Err.fault c.in-Err.ensures.unread)
