@@ -8,7 +8,7 @@ use Rattle.nc_cloud.specs.declared.fleet.Done.{Done}
 use Rattle.nc_cloud.specs.declared.fleet.Done.TheVariants.{Waiting, Failed}
 use Rattle.nc_cloud.specs.declared.seats.Seat.{Seat}
 use Rattle.nc_cloud.specs.Contents.{ChangesAt, Grows, Leaves, LeavesCloud, Rose, Settles, Store, Touch, touch_at}
-use Rattle.nc_cloud.specs.Fleet.{is_done, place, places, touch, touches}
+use Rattle.nc_cloud.specs.Fleet.{is_done, write, writes, touch, touches}
 use Rattle.nc_cloud.specs.Seats.{AllServed, Serves, DidPut, job_at, clouds_in, collected_job, contents_at, count_at}
 use Rattle.nc_cloud.proofs.Rounds.{touch_at_out, touch_of}
 use Rattle.nc_cloud.proofs.Fans.{Served, Stands, some_of, entry_in, entry_back, none_entry, seat_value, idle, busy, each_cloud}
@@ -30,8 +30,8 @@ module _ {C : Type 0} (tells : Type 0) (held : C → Store) (faults : C → ℕ)
       let s : Did (get_or jobs k d).cloud (get_or jobs k d) = did k d l in
       subst (λ x. P (record (get_or jobs k d) { done = x })) (sym (done_is (get_or jobs k d).cloud (get_or jobs k d) s)) (each k d l s)))
 
-  pub fan_places : places left ≡ places jobs
-  fan_places = ap places answers ∙ map-map place (collected_job mid) jobs
+  pub fan_places : writes left ≡ writes jobs
+  fan_places = ap writes answers ∙ map-map write (collected_job mid) jobs
 
   pub fan_done : All (λ j. j.done ≢ Waiting) left
   fan_done = all_left (λ j. j.done ≢ Waiting) (λ k d l s. s.done.answered)
@@ -90,8 +90,8 @@ module _ {C : Type 0} (tells : Type 0) (held : C → Store) (faults : C → ℕ)
       let at : (k : ℕ) → k < length jobs → (get_or left k d).cloud ≡ (get_or jobs k e).cloud = λ k n. ap (λ xs. (get_or xs k d).cloud) answers ∙ ap (λ (x : Job). x.cloud) (get_or-map (collected_job mid) jobs k e d n) in
       once i j e l m' (sym (at i l') ∙ same ∙ at j m')
 
-  none_left : (c : ℕ) → All (λ j. j.cloud ≢ c) jobs → All (λ t. t.place.cloud ≢ c) (touches left)
-  none_left c none = All-map (λ t. t.place.cloud ≢ c) touch left (subst (All (λ j. j.cloud ≢ c)) (sym answers) (All-map (λ j. j.cloud ≢ c) (collected_job mid) jobs none))
+  none_left : (c : ℕ) → All (λ j. j.cloud ≢ c) jobs → All (λ t. t.write.cloud ≢ c) (touches left)
+  none_left c none = All-map (λ t. t.write.cloud ≢ c) touch left (subst (All (λ j. j.cloud ≢ c)) (sym answers) (All-map (λ j. j.cloud ≢ c) (collected_job mid) jobs none))
 
   leaves_at : tells → (c : ℕ) → LeavesCloud (touch_at (touches left) c) (contents_at held (clouds_in old) c) (contents_at held (clouds_in mid) c)
   leaves_at told = each_cloud (λ j. j.cloud) (DidPut tells held faults exactly gets) jobs old mid below served (λ c. LeavesCloud (touch_at (touches left) c) (contents_at held (clouds_in old) c) (contents_at held (clouds_in mid) c))

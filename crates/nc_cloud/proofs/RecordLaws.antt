@@ -13,14 +13,14 @@ use Rattle.nc_cloud.proofs.Numbered.{map-numbered}
 use Rattle.std.proofs.lemmas.Slice.Eq.{slice_eq-Decides}
 use Rattle.nc_name.specs.declared.key.Key.{Key}
 use Rattle.nc_name.specs.declared.key.Key.TheVariants.{Meta, Chunk}
-use Rattle.nc_frame.specs.Frames.{Whole, Torn as IsTornFrame}
+use Rattle.nc_frame.specs.Frames.{Whole, AreTorn as IsTornFrame}
 use Rattle.nc_cloud.specs.declared.fleet.Ask.{Ask}
 use Rattle.nc_cloud.specs.declared.fleet.Job.{Job}
 use Rattle.nc_cloud.specs.declared.fleet.Done.{Done}
 use Rattle.nc_cloud.specs.declared.fleet.Done.TheVariants as done
 use Rattle.nc_cloud.specs.declared.fleet.Answer.{Answer}
 use Rattle.nc_cloud.specs.declared.fleet.Answer.TheVariants.{Waiting, Bytes, Absent, Long, Failed, Memory}
-use Rattle.nc_cloud.specs.declared.record.Torn.{Torn}
+use Rattle.nc_cloud.specs.declared.record.Torn.{AreTorn}
 use Rattle.nc_cloud.specs.declared.record.Torn.TheVariants.{Old, New, Gone, Broken}
 use Rattle.nc_cloud.specs.declared.record.Refusal.{Refusal}
 use Rattle.nc_cloud.specs.declared.record.Look.{Look}
@@ -29,7 +29,7 @@ use Rattle.nc_cloud.specs.declared.record.Event.{Event}
 use Rattle.nc_cloud.specs.declared.record.Event.TheVariants.{Gets, Puts, Planted}
 use Rattle.nc_cloud.specs.Contents.{Contents, Store, Rose, Settles, ChangesAt, Touch, touch_at, LeavesCloud, Leaves}
 use Rattle.nc_cloud.specs.Contents.Fate.{stayed, became, went, broke}
-use Rattle.nc_cloud.specs.Fleet.{asked, place, places, is_done, touch, touches, Answers, Shows, is_failed, is_bytes, is_chunk, tally, chunks_got, got_count}
+use Rattle.nc_cloud.specs.Fleet.{asked, write, writes, is_done, touch, touches, Answers, Shows, is_failed, is_bytes, is_chunk, tally, chunks_got, got_count}
 use Rattle.nc_cloud.specs.Record.{numbered, refused_at, done_of, answer_of, look_of, step_of, steps_of, key_eq, step_at, left, step_value, value_after, value, contents_after, nothing, answered_ask, answered_asks, done_job, done_jobs, starved_ask, starved_job, failed_in, failures, counted, gifts, given_in}
 use Rattle.nc_cloud.specs.Memory.{gets_event, puts_event}
 
@@ -85,7 +85,7 @@ stays false old new not_so = refl
 
 module _ (key : Key) (bytes : List ℕ) (whole : Whole bytes) where
   -- an object after its put
-  left_settles : (refused : Option Torn) (old : Option (List ℕ)) → Settles (is_done (done_of refused)) (Some bytes) old (left refused bytes old)
+  left_settles : (refused : Option AreTorn) (old : Option (List ℕ)) → Settles (is_done (done_of refused)) (Some bytes) old (left refused bytes old)
   left_settles None old = refl
   left_settles (Some Old) old = stayed refl
   left_settles (Some New) old = became refl
@@ -93,7 +93,7 @@ module _ (key : Key) (bytes : List ℕ) (whole : Whole bytes) where
   left_settles (Some Broken) old = broke (broken_is_torn bytes whole)
 
   -- a cloud after its put
-  step_changes : (refused : Option Torn) (old : Store) → ChangesAt key (Settles (is_done (done_of refused)) (Some bytes)) old (λ q. if key_eq key q then left refused bytes (old q) else old q)
+  step_changes : (refused : Option AreTorn) (old : Store) → ChangesAt key (Settles (is_done (done_of refused)) (Some bytes)) old (λ q. if key_eq key q then left refused bytes (old q) else old q)
   step_changes refused old = record {
     there =
         let same : key_eq key key ≡ true = (key_eq-Decides key key).1 refl in
@@ -166,7 +166,7 @@ failures_after_gets log (a ∷ asks) c =
     failures-more log (Gets (map look_of (a ∷ asks))) c
     ∙ ap (λ n. failures log c + n) (tally-map (λ l. nat_eq l.cloud c && l.failed) look_of (a ∷ asks))
 
-same_failed : (refused : Option Torn) → is_some refused ≡ is_failed_done (done_of refused)
+same_failed : (refused : Option AreTorn) → is_some refused ≡ is_failed_done (done_of refused)
 unfolding is_failed_done
 same_failed None = refl
 same_failed (Some outcome) = refl
@@ -305,7 +305,7 @@ sized most bytes true (inr p) = cc
 sized most bytes false (inl p) = cc
 sized most bytes false (inr p) = (bytes, refl, p.1)
 
-shows : (refused : Option Torn) (most : ℕ) (held : Option (List ℕ)) → Shows (answer_of refused most held) most held
+shows : (refused : Option AreTorn) (most : ℕ) (held : Option (List ℕ)) → Shows (answer_of refused most held) most held
 shows (Some outcome) most held = tt
 shows None most None = refl
 shows None most (Some bytes) = sized most bytes (nat_le (length bytes) most) (leb_tells (length bytes) most)
@@ -330,13 +330,13 @@ module _ (refusals : List Refusal) (n : ℕ) (log : List Event) (asks : List Ask
   asks_answered = all_numbered (λ x. x.answer ≢ Waiting) (answered_ask refusals log) (λ k a. shown_answered _ _ _ (shows (refused_at refusals k) a.most (value log a.cloud a.key None))) n asks
 
 -- a round of puts that was served
-done_answered : (refused : Option Torn) → done_of refused ≢ done.Waiting
+done_answered : (refused : Option AreTorn) → done_of refused ≢ done.Waiting
 done_answered None e = cc
 done_answered (Some outcome) e = cc
 
 module _ (refusals : List Refusal) (n : ℕ) (jobs : List Job) where
-  pub places_same : places (done_jobs refusals n jobs) ≡ places jobs
-  places_same = map-numbered (done_job refusals) place place (λ k j. refl) n jobs
+  pub places_same : writes (done_jobs refusals n jobs) ≡ writes jobs
+  places_same = map-numbered (done_job refusals) write write (λ k j. refl) n jobs
 
   pub jobs_answered : All (λ j. j.done ≢ done.Waiting) (done_jobs refusals n jobs)
   jobs_answered = all_numbered (λ x. x.done ≢ done.Waiting) (done_job refusals) (λ k j. done_answered (refused_at refusals k)) n jobs
@@ -354,8 +354,8 @@ starved_same xs ys e = sym (map-map no_answer asked xs) ∙ ap (map no_answer) e
 pub starved_asked : (asks : List Ask) → map asked (map starved_ask asks) ≡ map asked asks
 starved_asked asks = map-map asked starved_ask asks
 
-pub starved_places : (jobs : List Job) → places (map starved_job jobs) ≡ places jobs
-starved_places jobs = map-map place starved_job jobs
+pub starved_places : (jobs : List Job) → writes (map starved_job jobs) ≡ writes jobs
+starved_places jobs = map-map write starved_job jobs
 
 pick_kept : (b : Bool) (old : Store) (t : Touch) (u : Option Touch) → LeavesCloud (Some t) old old → LeavesCloud u old old → LeavesCloud (cond b (Some t) u) old old
 pick_kept true old t u here later = here

@@ -10,15 +10,15 @@ use Rattle.nc_cloud.specs.declared.fleet.Job.{Job}
 use Rattle.nc_cloud.specs.declared.fleet.Done.TheVariants as done
 use Rattle.nc_frame.specs.Frames.{Whole}
 use Rattle.nc_cloud.specs.Contents.Fate.{became}
-use Rattle.nc_cloud.specs.Contents.{Contents, Store, Fate, Settles, ChangesAt, Place, Touch, touch_at, LeavesCloud, Leaves}
-use Rattle.nc_cloud.specs.Fleet.{asked, place, places, is_done, touch, touches, Answers, Shows}
+use Rattle.nc_cloud.specs.Contents.{Contents, Store, Fate, Settles, ChangesAt, Write, Touch, touch_at, LeavesCloud, Leaves}
+use Rattle.nc_cloud.specs.Fleet.{asked, write, writes, is_done, touch, touches, Answers, Shows}
 use Rattle.nc_cloud.specs.Rounds.{row, IsWhole}
 
 pub length-row : {X : Type 0} (f : ℕ → X) (a k : ℕ) → length (row f a k) ≡ k
 length-row f a zero = refl
 length-row f a (suc k) = ap suc (length-row f (suc a) k)
 
--- what stands at a place of a row
+-- what stands at a write of a row
 pub get_or-row : {X : Type 0} (f : ℕ → X) (a k i : ℕ) (d : X) → i < k → get_or (row f a k) i d ≡ f (a + i)
 get_or-row f a zero i d l = absurd (omega arith)
 get_or-row f a (suc k) zero d l = ap f (omega arith)
@@ -62,24 +62,24 @@ module _ {A X : Type 0} (p : A → X) (f : ℕ → X) (n : ℕ) (xs : List A) (a
       absurd (omega arith)
 
 -- the entry of a cloud, where no cloud has two
-pub touch_at_in : (ts : List Touch) → AllPairs (λ s t. s.place.cloud ≢ t.place.cloud) ts → (i : ℕ) (d : Touch) → i < length ts → touch_at ts (get_or ts i d).place.cloud ≡ Some (get_or ts i d)
+pub touch_at_in : (ts : List Touch) → AllPairs (λ s t. s.write.cloud ≢ t.write.cloud) ts → (i : ℕ) (d : Touch) → i < length ts → touch_at ts (get_or ts i d).write.cloud ≡ Some (get_or ts i d)
 touch_at_in [] once i d l = absurd (omega arith)
-touch_at_in (t ∷ ts) once zero d l = rw (eq-eqb t.place.cloud t.place.cloud refl) refl
+touch_at_in (t ∷ ts) once zero d l = rw (eq-eqb t.write.cloud t.write.cloud refl) refl
 touch_at_in (t ∷ ts) once (suc i) d l =
-    let differs : t.place.cloud ≢ (get_or ts i d).place.cloud = once 0 (suc i) d (omega arith) l in
-    let rest : touch_at ts (get_or ts i d).place.cloud ≡ Some (get_or ts i d) = touch_at_in ts (λ j k e m o. once (suc j) (suc k) e (omega arith) (omega arith)) i d (omega arith) in
-    elim (eqb_tells t.place.cloud (get_or ts i d).place.cloud) [
+    let differs : t.write.cloud ≢ (get_or ts i d).write.cloud = once 0 (suc i) d (omega arith) l in
+    let rest : touch_at ts (get_or ts i d).write.cloud ≡ Some (get_or ts i d) = touch_at_in ts (λ j k e m o. once (suc j) (suc k) e (omega arith) (omega arith)) i d (omega arith) in
+    elim (eqb_tells t.write.cloud (get_or ts i d).write.cloud) [
       | inl same ↦ absurd (differs same.1)
       | inr other ↦ rw other.0 rest
     ]
 
 -- a cloud without an entry
-pub touch_at_out : (ts : List Touch) (c : ℕ) → All (λ t. t.place.cloud ≢ c) ts → touch_at ts c ≡ None
+pub touch_at_out : (ts : List Touch) (c : ℕ) → All (λ t. t.write.cloud ≢ c) ts → touch_at ts c ≡ None
 touch_at_out [] c none = refl
 touch_at_out (t ∷ ts) c none =
-    let differs : t.place.cloud ≢ c = none 0 t (omega arith) in
+    let differs : t.write.cloud ≢ c = none 0 t (omega arith) in
     let rest : touch_at ts c ≡ None = touch_at_out ts c (λ k d l. none (suc k) d (omega arith)) in
-    elim (eqb_tells t.place.cloud c) [
+    elim (eqb_tells t.write.cloud c) [
       | inl same ↦ absurd (differs same.1)
       | inr other ↦ rw other.0 rest
     ]
@@ -99,19 +99,19 @@ module _ (jobs : List Job) (once : AllPairs (λ a b. a.cloud ≢ b.cloud) jobs) 
   touch_get : (i : ℕ) (d : Job) (e : Touch) → i < length jobs → get_or (touches jobs) i e ≡ touch (get_or jobs i d)
   touch_get i d e l = get_or-map touch jobs i d e l
 
-  touches_once : AllPairs (λ s t. s.place.cloud ≢ t.place.cloud) (touches jobs)
+  touches_once : AllPairs (λ s t. s.write.cloud ≢ t.write.cloud) (touches jobs)
   touches_once i j e l m same =
       let j' : j < length jobs = omega (arith, length-map jobs touch) in
       let i' : i < length jobs = omega arith in
       let d : Job = some_of jobs (omega arith) in
-      once i j d l j' (sym (ap (λ t. t.place.cloud) (touch_get i d e i')) ∙ same ∙ ap (λ t. t.place.cloud) (touch_get j d e j'))
+      once i j d l j' (sym (ap (λ t. t.write.cloud) (touch_get i d e i')) ∙ same ∙ ap (λ t. t.write.cloud) (touch_get j d e j'))
 
   -- a job is the entry of its cloud
   pub touch_of : (i : ℕ) (d : Job) → i < length jobs → touch_at (touches jobs) (get_or jobs i d).cloud ≡ Some (touch (get_or jobs i d))
   touch_of i d l =
       let within : i < length (touches jobs) = omega (arith, length-map jobs touch) in
       let is : get_or (touches jobs) i (touch d) ≡ touch (get_or jobs i d) = touch_get i d (touch d) l in
-      subst (λ (t : Touch). touch_at (touches jobs) t.place.cloud ≡ Some t) is (touch_at_in (touches jobs) touches_once i (touch d) within)
+      subst (λ (t : Touch). touch_at (touches jobs) t.write.cloud ≡ Some t) is (touch_at_in (touches jobs) touches_once i (touch d) within)
 
   -- what it leaves
   pub left_of : {F G : Contents} → Leaves (touches jobs) F G → (i : ℕ) (d : Job) → i < length jobs → ChangesAt (get_or jobs i d).key (Settles (is_done (get_or jobs i d).done) (Some (get_or jobs i d).bytes)) (F (get_or jobs i d).cloud) (G (get_or jobs i d).cloud)
@@ -121,23 +121,23 @@ module _ (jobs : List Job) (once : AllPairs (λ a b. a.cloud ≢ b.cloud) jobs) 
 -- a cloud without a job stays as it was
 pub left_else : (jobs : List Job) {F G : Contents} → Leaves (touches jobs) F G → (c : ℕ) → All (λ j. j.cloud ≢ c) jobs → G c ≡ F c
 left_else jobs {F = F} {G = G} leaves c none =
-    let out : All (λ t. t.place.cloud ≢ c) (touches jobs) = All-map (λ t. t.place.cloud ≢ c) touch jobs none in
+    let out : All (λ t. t.write.cloud ≢ c) (touches jobs) = All-map (λ t. t.write.cloud ≢ c) touch jobs none in
     subst (λ (t : Option Touch). LeavesCloud t (F c) (G c)) (touch_at_out (touches jobs) c out) (leaves.each c)
 
 -- a round of puts with one for each cloud
-module _ (f : ℕ → Place) (is : (c : ℕ) → (f c).cloud ≡ c) (n : ℕ) (jobs : List Job) (all : places jobs ≡ row f 0 n) where
+module _ (f : ℕ → Write) (is : (c : ℕ) → (f c).cloud ≡ c) (n : ℕ) (jobs : List Job) (all : writes jobs ≡ row f 0 n) where
   pub jobs_length : length jobs ≡ n
-  jobs_length = row_length place f n jobs all
+  jobs_length = row_length write f n jobs all
 
   -- the job of a cloud
-  pub job_at : (c : ℕ) → c < n → (d : Job) → place (get_or jobs c d) ≡ f c
-  job_at c l d = row_at place f n jobs all c l d
+  pub job_at : (c : ℕ) → c < n → (d : Job) → write (get_or jobs c d) ≡ f c
+  job_at c l d = row_at write f n jobs all c l d
 
   pub job_cloud : (c : ℕ) → c < n → (d : Job) → (get_or jobs c d).cloud ≡ c
   job_cloud c l d = ap (λ p. p.cloud) (job_at c l d) ∙ is c
 
   pub jobs_once : AllPairs (λ a b. a.cloud ≢ b.cloud) jobs
-  jobs_once = row_once place f n jobs all (λ p. p.cloud) is
+  jobs_once = row_once write f n jobs all (λ p. p.cloud) is
 
   pub jobs_below : (width : ℕ) → n ≤ width → All (λ j. j.cloud < width) jobs
   jobs_below width l k d m =
@@ -146,13 +146,13 @@ module _ (f : ℕ → Place) (is : (c : ℕ) → (f c).cloud ≡ c) (n : ℕ) (j
       omega arith
 
   pub jobs_whole : ((c : ℕ) → c < n → IsWhole (f c).new) → All (λ j. Whole j.bytes) jobs
-  jobs_whole whole = all_row place f n jobs all (λ p. IsWhole p.new) whole
+  jobs_whole whole = all_row write f n jobs all (λ p. IsWhole p.new) whole
 
   -- what a cloud holds afterwards
   pub left_in : {F G : Contents} → Leaves (touches jobs) F G → (c : ℕ) → c < n → (d : Job) → ChangesAt (f c).key (Settles (is_done (get_or jobs c d).done) (f c).new) (F c) (G c)
   left_in {F = F} {G = G} leaves c l d =
       let within : c < length jobs = omega (arith, jobs_length) in
-      let Of : Place → Type 0 = λ p. ChangesAt p.key (Settles (is_done (get_or jobs c d).done) p.new) (F p.cloud) (G p.cloud) in
+      let Of : Write → Type 0 = λ p. ChangesAt p.key (Settles (is_done (get_or jobs c d).done) p.new) (F p.cloud) (G p.cloud) in
       let at : Of (f c) = subst Of (job_at c l d) (left_of jobs jobs_once leaves c d within) in
       subst (λ (k : ℕ). ChangesAt (f c).key (Settles (is_done (get_or jobs c d).done) (f c).new) (F k) (G k)) (is c) at
 

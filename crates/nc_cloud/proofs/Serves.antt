@@ -9,7 +9,7 @@ use Rattle.nc_cloud.specs.declared.fleet.Answer.TheVariants.{Waiting, Failed}
 use Rattle.nc_cloud.specs.declared.record.Event.{Event}
 use Rattle.nc_cloud.specs.declared.memory.MemFleet.{MemFleet}
 use Rattle.nc_cloud.specs.Contents.{Rose, Grows, Leaves}
-use Rattle.nc_cloud.specs.Fleet.{asked, chunks_got, got_count, places, touches, Answers}
+use Rattle.nc_cloud.specs.Fleet.{asked, chunks_got, got_count, writes, touches, Answers}
 use Rattle.nc_cloud.specs.Record.{contents_after, counted, done_jobs, failures, gifts, nothing, starved_ask, starved_job, look_of, steps_of, step_value, step_at}
 use Rattle.nc_cloud.specs.Memory.{chunk_gets_of, contents_of, entries_of, faults_of, log_of, refusals_of, width_of, ServesGets, ServesPuts}
 use Rattle.nc_cloud.specs.Memory.ServesGets.{starved, served}
@@ -66,9 +66,9 @@ module _ {old new : MemFleet} {asks left : List Ask} where
 
 -- a round of puts
 module _ {old new : MemFleet} {jobs left : List Job} where
-  pub puts_entries : ServesPuts old new jobs left → places left ≡ places jobs
-  puts_entries (puts_starved answers same) = ap places answers ∙ starved_places jobs
-  puts_entries (puts_served writes) = ap places writes.answers ∙ places_same (refusals_of old) (entries_of old) jobs
+  pub puts_entries : ServesPuts old new jobs left → writes left ≡ writes jobs
+  puts_entries (puts_starved answers same) = ap writes answers ∙ starved_places jobs
+  puts_entries (puts_served writes) = ap writes writes.answers ∙ places_same (refusals_of old) (entries_of old) jobs
 
   pub puts_answered : ServesPuts old new jobs left → All (λ j. j.done ≢ done.Waiting) left
   puts_answered (puts_starved answers same) = subst (All (λ j. j.done ≢ done.Waiting)) (sym answers) (All-map (λ j. j.done ≢ done.Waiting) starved_job jobs (λ k d l e. cc))

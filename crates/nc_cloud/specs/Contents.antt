@@ -1,7 +1,7 @@
 -- What clouds hold, and what a round leaves.
 use Rattle.std.specs.Prelude.{ℕ, ◌≡◌, ◌≢◌, ◌+◌, ◌-◌, ◌^◌, ◌≤◌, Bool, true, false, Option, None, Some, List, [], ◌∷◌, min, nat_eq, if◌then◌else◌}
 use Rattle.nc_name.specs.declared.key.Key.{Key}
-use Rattle.nc_frame.specs.Frames.{Torn}
+use Rattle.nc_frame.specs.Frames.{AreTorn}
 
 -- a count has risen, or stands at its end
 abbrev pub Rose : ℕ → ℕ → Type 0
@@ -21,7 +21,7 @@ Contents = ℕ → Store
 
 abbrev pub IsTorn : Option (List ℕ) → Type 0
 IsTorn None = ⊥
-IsTorn (Some bytes) = Torn bytes
+IsTorn (Some bytes) = AreTorn bytes
 
 -- what an object that was to become new may be left as: old, new, gone or torn
 pub data Fate (old new left : Option (List ℕ)) : Type 0 where
@@ -41,25 +41,25 @@ pub record ChangesAt (key : Key) (change : Option (List ℕ) → Option (List �
   pub others : (q : Key) → q ≢ key → new q ≡ old q
 
 -- an entry of a round: the object that it touches, and what that is to become
-pub record Place : Type 0 where
+pub record Write : Type 0 where
   pub cloud : ℕ
   pub key : Key
   pub new : Option (List ℕ)
 
 -- an entry with its answer, which is Ok or not
 pub record Touch : Type 0 where
-  pub place : Place
+  pub write : Write
   pub ok : Bool
 
 -- the entry of a cloud
 abbrev pub touch_at : List Touch → ℕ → Option Touch
 touch_at [] c = None
-touch_at (t ∷ ts) c = if nat_eq t.place.cloud c then Some t else touch_at ts c
+touch_at (t ∷ ts) c = if nat_eq t.write.cloud c then Some t else touch_at ts c
 
 -- a cloud after a round
 abbrev pub LeavesCloud : Option Touch → Store → Store → Type 0
 LeavesCloud None old left = left ≡ old
-LeavesCloud (Some t) old left = ChangesAt t.place.key (Settles t.ok t.place.new) old left
+LeavesCloud (Some t) old left = ChangesAt t.write.key (Settles t.ok t.write.new) old left
 
 -- the contents after a round
 pub record Leaves (ts : List Touch) (old left : Contents) : Type 0 where

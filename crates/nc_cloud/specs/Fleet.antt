@@ -8,17 +8,17 @@ use Rattle.nc_cloud.specs.declared.fleet.Done.{Done}
 use Rattle.nc_cloud.specs.declared.fleet.Done.TheVariants as done
 use Rattle.nc_cloud.specs.declared.fleet.Answer.{Answer}
 use Rattle.nc_cloud.specs.declared.fleet.Answer.TheVariants.{Waiting, Bytes, Absent, Long, Failed, Memory}
-use Rattle.nc_cloud.specs.Contents.{Place, Touch}
+use Rattle.nc_cloud.specs.Contents.{Write, Touch}
 
 -- an entry without its answer
 abbrev pub asked : Ask → ℕ × Key × ℕ
 asked a = (a.cloud, a.key, a.most)
 
-abbrev pub place : Job → Place
-place j = record { cloud = j.cloud; key = j.key; new = Some j.bytes }
+abbrev pub write : Job → Write
+write j = record { cloud = j.cloud; key = j.key; new = Some j.bytes }
 
-abbrev pub places : List Job → List Place
-places jobs = map place jobs
+abbrev pub writes : List Job → List Write
+writes jobs = map write jobs
 
 abbrev pub is_done : Done → Bool
 is_done done.Ok = true
@@ -27,7 +27,7 @@ is_done done.Failed = false
 is_done done.Memory = false
 
 abbrev pub touch : Job → Touch
-touch j = record { place = place j; ok = is_done j.done }
+touch j = record { write = write j; ok = is_done j.done }
 
 abbrev pub touches : List Job → List Touch
 touches jobs = map touch jobs

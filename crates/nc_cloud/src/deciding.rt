@@ -2,7 +2,7 @@ ghost use Rattle.std.specs.Prelude.{◌≡◌, ◌≢◌, ℕ, All, map, IfErr, 
 ghost use Rattle.nc_frame.specs.Frames.{Whole};
 ghost use Rattle.nc_cloud.specs.Contents.{Leaves, Grows};
 ghost use Rattle.nc_cloud.specs.Images.{Image, Written};
-ghost use Rattle.nc_cloud.specs.Fleet.{asked, places, touches, Answers};
+ghost use Rattle.nc_cloud.specs.Fleet.{asked, writes, touches, Answers};
 ghost use Rattle.nc_cloud.specs.Deciding.{AreByCloud, BlamesJob, BlamesAsk, IsSeen, IsLeast, HasCause};
 
 use crate::fleet::{Answer, Ask, Done, Fleet, Job};
@@ -75,8 +75,8 @@ pub fn write_round<F: Fleet>(fleet: &mut F, jobs: &mut [Job]) -> Result<(), Roun
     requires ready { F.ready }
     requires clouds { AreByCloud (λ j. j.cloud) (F.clouds fleet.old) jobs.old }
     requires whole { All (λ j. Whole j.bytes) jobs.old }
-    ensures image { F.tells → Image (places jobs.old) (F.held fleet.old) (F.held fleet.new) }
-    ensures done { F.tells → OnOk result (Written (places jobs.old) (F.held fleet.old) (F.held fleet.new)) }
+    ensures image { F.tells → Image (writes jobs.old) (F.held fleet.old) (F.held fleet.new) }
+    ensures done { F.tells → OnOk result (Written (writes jobs.old) (F.held fleet.old) (F.held fleet.new)) }
     ensures cause { IfErr result (HasCause F.counts_exactly (F.faults fleet.old) (F.faults fleet.new)) }
     ensures clean { F.counts_exactly → OnOk result ((c : ℕ) → F.faults fleet.new c ≡ F.faults fleet.old c) }
     ensures clouds { F.clouds fleet.new ≡ F.clouds fleet.old }
@@ -108,8 +108,8 @@ pub fn write_row<F: Fleet>(fleet: &mut F, mut jobs: Vec<Job>) -> Result<(), Roun
     requires ready { F.ready }
     requires clouds { AreByCloud (λ j. j.cloud) (F.clouds fleet.old) jobs.items }
     requires whole { All (λ j. Whole j.bytes) jobs.items }
-    ensures image { F.tells → Image (places jobs.items) (F.held fleet.old) (F.held fleet.new) }
-    ensures done { F.tells → OnOk result (Written (places jobs.items) (F.held fleet.old) (F.held fleet.new)) }
+    ensures image { F.tells → Image (writes jobs.items) (F.held fleet.old) (F.held fleet.new) }
+    ensures done { F.tells → OnOk result (Written (writes jobs.items) (F.held fleet.old) (F.held fleet.new)) }
     ensures cause { IfErr result (HasCause F.counts_exactly (F.faults fleet.old) (F.faults fleet.new)) }
     ensures clean { F.counts_exactly → OnOk result ((c : ℕ) → F.faults fleet.new c ≡ F.faults fleet.old c) }
     ensures clouds { F.clouds fleet.new ≡ F.clouds fleet.old }

@@ -1,7 +1,7 @@
 ghost use Rattle.std.specs.Prelude.{◌≡◌, ◌≢◌, ◌<◌, ℕ, All, AllPairs, map};
 ghost use Rattle.nc_frame.specs.Frames.{Whole};
 ghost use Rattle.nc_cloud.specs.Contents.{Contents, Rose, Leaves, Grows};
-ghost use Rattle.nc_cloud.specs.Fleet.{asked, chunks_got, got_count, places, touches, Answers};
+ghost use Rattle.nc_cloud.specs.Fleet.{asked, chunks_got, got_count, writes, touches, Answers};
 ghost use Rattle.nc_cloud.specs.declared.fleet.Answer.TheVariants.{Waiting as Unanswered, Failed as NoAnswer};
 ghost use Rattle.nc_cloud.specs.declared.fleet.Done.TheVariants.{Waiting, Failed};
 
@@ -103,7 +103,7 @@ pub trait Fleet {
         requires below { All (λ j. j.cloud < clouds self.old) jobs.old }
         requires once { AllPairs (λ a b. a.cloud ≢ b.cloud) jobs.old }
         requires whole { All (λ j. Whole j.bytes) jobs.old }
-        ensures entries { places jobs.new ≡ places jobs.old }
+        ensures entries { writes jobs.new ≡ writes jobs.old }
         ensures answered { All (λ j. j.done ≢ Waiting) jobs.new }
         ensures told { tells → Leaves (touches jobs.new) (held self.old) (held self.new) }
         ensures failed { All (λ j. j.done ≡ Failed → Rose (faults self.old j.cloud) (faults self.new j.cloud)) jobs.new }

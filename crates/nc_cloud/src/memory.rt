@@ -2,7 +2,7 @@ ghost use Rattle.std.specs.Prelude.{◌≡◌, ◌≢◌, ◌<◌, ◌++◌, ◌
 ghost use Rattle.nc_name.specs.declared.key.Key.{Key};
 ghost use Rattle.nc_frame.specs.Frames.{Whole};
 ghost use Rattle.nc_cloud.specs.Contents.{Rose, Leaves, Grows};
-ghost use Rattle.nc_cloud.specs.Fleet.{asked, chunks_got, got_count, places, touches, Answers};
+ghost use Rattle.nc_cloud.specs.Fleet.{asked, chunks_got, got_count, writes, touches, Answers};
 ghost use Rattle.nc_cloud.specs.declared.fleet.Answer.TheVariants.{Waiting as Unanswered, Failed as NoAnswer};
 ghost use Rattle.nc_cloud.specs.declared.fleet.Done.TheVariants.{Waiting, Failed};
 ghost use Rattle.nc_cloud.specs.Record.{nothing};
@@ -220,7 +220,7 @@ impl Fleet for MemFleet {
         requires below { All (λ j. j.cloud < width_of self.old) jobs.old }
         requires once { AllPairs (λ a b. a.cloud ≢ b.cloud) jobs.old }
         requires whole { All (λ j. Whole j.bytes) jobs.old }
-        ensures entries { places jobs.new ≡ places jobs.old }
+        ensures entries { writes jobs.new ≡ writes jobs.old }
         ensures answered { All (λ j. j.done ≢ Waiting) jobs.new }
         ensures told { Leaves (touches jobs.new) (contents_of self.old) (contents_of self.new) }
         ensures failed { All (λ j. j.done ≡ Failed → Rose (faults_of self.old j.cloud) (faults_of self.new j.cloud)) jobs.new }

@@ -1,7 +1,7 @@
 ghost use Rattle.std.specs.Prelude.{◌≡◌, ◌<◌, ℕ, map, length, find, nat_eq, option_copied, slice_index_or, IfOk, AllPairs, All, ◌≢◌};
 ghost use Rattle.nc_frame.specs.Frames.{Whole};
 ghost use Rattle.nc_cloud.specs.Contents.{Grows, Leaves, Rose};
-ghost use Rattle.nc_cloud.specs.Fleet.{asked, Answers, chunks_got, got_count, places, touches};
+ghost use Rattle.nc_cloud.specs.Fleet.{asked, Answers, chunks_got, got_count, writes, touches};
 ghost use Rattle.nc_cloud.specs.Seats.{contents_at, count_at, answer_from, AllServed, ask_at, clouds_in, done_from, job_at, collected_ask, collected_job, DidGet, DidPut, Serves};
 
 use crate::cloud::{Cloud, CloudError, Got};
@@ -160,7 +160,7 @@ pub(crate) fn fan_puts<C: Cloud>(seats: &mut [Seat<C>], jobs: &mut [Job])
     requires below { All (λ j. j.cloud < length seats.old) jobs.old }
     requires once { AllPairs (λ a b. a.cloud ≢ b.cloud) jobs.old }
     requires whole { All (λ j. Whole j.bytes) jobs.old }
-    ensures entries { places jobs.new ≡ places jobs.old }
+    ensures entries { writes jobs.new ≡ writes jobs.old }
     ensures answered { All (λ j. j.done ≢ Done.Waiting) jobs.new }
     ensures told { C.tells → Leaves (touches jobs.new) (contents_at C.held (clouds_in seats.old)) (contents_at C.held (clouds_in seats.new)) }
     ensures failed { All (λ j. j.done ≡ Done.Failed → Rose (count_at C.faults (clouds_in seats.old) j.cloud) (count_at C.faults (clouds_in seats.new) j.cloud)) jobs.new }

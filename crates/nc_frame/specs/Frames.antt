@@ -35,13 +35,13 @@ pub record Whole (bytes : List ℕ) : Type 0 where
   pub is_sealed : Sealed bytes cloud width key payload
 
 -- no beginning is whole, the bytes themselves included
-pub record Torn (bytes : List ℕ) : Type 0 where
+pub record AreTorn (bytes : List ℕ) : Type 0 where
   pub none_whole : (front rest : List ℕ) → front ++ rest ≡ bytes → Whole front → ⊥
 
 -- a beginning of a whole frame that is not all of it is torn
 abbrev pub ProperPrefixesAreTorn : Type 0
-ProperPrefixesAreTorn = (front rest bytes : List ℕ) → Whole bytes → front ++ rest ≡ bytes → rest ≢ [] → Torn front
+ProperPrefixesAreTorn = (front rest bytes : List ℕ) → Whole bytes → front ++ rest ≡ bytes → rest ≢ [] → AreTorn front
 
 -- a beginning of torn bytes is torn
 abbrev pub PrefixesOfTornAreTorn : Type 0
-PrefixesOfTornAreTorn = (front rest bytes : List ℕ) → Torn bytes → front ++ rest ≡ bytes → Torn front
+PrefixesOfTornAreTorn = (front rest bytes : List ℕ) → AreTorn bytes → front ++ rest ≡ bytes → AreTorn front

@@ -23,7 +23,7 @@ pub record IsFirstControl (bytes : List ℕ) (at : ℕ) : Type 0 where
   pub before : (i : ℕ) → i < at → is_control (slice_index bytes i) ≡ false
 
 -- the first cause, in this order, why a text is no name
-abbrev pub Refuses : List ℕ → NameFault → Type 0
-Refuses text Empty = length text ≡ 0
-Refuses text (Long len) = (len ≡ length text) × (100 < length text)
-Refuses text (Control at) = (1 ≤ length text) × (length text ≤ 100) × IsFirstControl text at
+abbrev pub RefusesName : List ℕ → NameFault → Type 0
+RefusesName text Empty = length text ≡ 0
+RefusesName text (Long len) = (len ≡ length text) × (100 < length text)
+RefusesName text (Control at) = (1 ≤ length text) × (length text ≤ 100) × IsFirstControl text at

@@ -1,5 +1,5 @@
 ghost use Rattle.std.specs.Prelude.{◌≡◌, ◌↔◌, ◌≤◌, ◌<◌, ◌-◌, ◌++◌, ℕ, false, length, replicate, slice_index, IsTrue, IfOk, IfErr, IfSome, IfNone};
-ghost use Rattle.nc_name.specs.Names.{IsName, IsFirstControl, Refuses, is_control};
+ghost use Rattle.nc_name.specs.Names.{IsName, IsFirstControl, RefusesName, is_control};
 
 use nc_bytes::is_same;
 use std::marker::Model;
@@ -43,7 +43,7 @@ impl Name {
     /// The name that is this text.
     pub fn read(text: &str) -> Result<Name, NameFault>
         ensures ok { IfOk result (λ name. (name ≡ text.now) × IsName text.now) }
-        ensures fault { IfErr result (Refuses text.now) }
+        ensures fault { IfErr result (RefusesName text.now) }
     {
         let bytes = text.as_bytes();
         if bytes.is_empty() {

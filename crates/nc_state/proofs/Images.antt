@@ -5,8 +5,8 @@ use Rattle.std.proofs.lemmas.Bool.Decides.{Decides-and, Decides-eqb, Decides-lik
 use Rattle.std.proofs.lemmas.Slice.Eq.{bytes_eq-Decides}
 use Rattle.nc_name.specs.declared.key.Key.{Key}
 use Rattle.nc_name.specs.declared.key.Key.TheVariants.{Meta, Chunk}
-use Rattle.nc_cloud.specs.Contents.{ChangesAt, Contents, Fate, Place, Store}
-use Rattle.nc_cloud.specs.Images.{Image, ImageCloud, place_at}
+use Rattle.nc_cloud.specs.Contents.{ChangesAt, Contents, Fate, Write, Store}
+use Rattle.nc_cloud.specs.Images.{Image, ImageCloud, write_at}
 use Rattle.nc_cloud.specs.Record.{key_eq}
 use Rattle.nc_state.specs.Rounds.{IsImage, Left, Touching}
 use Rattle.nc_state.specs.Rounds.Left.{untouched, touched}
@@ -21,13 +21,13 @@ key_eq-Decides (Chunk n s r) (Chunk m t q) =
 key_eq-Decides (Meta n s) (Chunk m t q) = ((λ e. cc), (λ e. cc))
 key_eq-Decides (Chunk n s r) (Meta m t) = ((λ e. cc), (λ e. cc))
 
-left_at : (touches : Key → Option (List ℕ) → Type 0) (p : Place) (old left : Store) → touches p.key p.new → ChangesAt p.key (λ o l. Fate o p.new l) old left
+left_at : (touches : Key → Option (List ℕ) → Type 0) (p : Write) (old left : Store) → touches p.key p.new → ChangesAt p.key (λ o l. Fate o p.new l) old left
     → (place : Key) (same : Bool) → (same ≡ true → place ≡ p.key) → (place ≡ p.key → same ≡ true) → Left (touches place) (old place) (left place)
 left_at touches p old left touch changes place true is back =
     subst (λ (q : Key). Left (touches q) (old q) (left q)) (sym (is refl)) (touched p.new touch changes.there)
 left_at touches p old left touch changes place false is back = untouched (changes.others place (λ e. let wrong : false ≡ true = back e in cc))
 
-left_cloud : (touches : Key → Option (List ℕ) → Type 0) (entry : Option Place) (old left : Store) → ((p : Place) → entry ≡ Some p → touches p.key p.new) → ImageCloud entry old left
+left_cloud : (touches : Key → Option (List ℕ) → Type 0) (entry : Option Write) (old left : Store) → ((p : Write) → entry ≡ Some p → touches p.key p.new) → ImageCloud entry old left
     → (place : Key) → Left (touches place) (old place) (left place)
 left_cloud touches None old left all image place = untouched (ap (λ (s : Store). s place) image)
 left_cloud touches (Some p) old left all image place =
@@ -35,9 +35,9 @@ left_cloud touches (Some p) old left all image place =
     left_at touches p old left (all p refl) image place (key_eq place p.key) test.0 test.1
 
 -- an image of a round whose entries are all among these
-pub round_image : {n : ℕ} {touches : Touching} {F G : Contents} (ps : List Place) → ((c : ℕ) (p : Place) → c < n → place_at ps c ≡ Some p → touches c p.key p.new) → Image ps F G → IsImage n touches F G
+pub round_image : {n : ℕ} {touches : Touching} {F G : Contents} (ps : List Write) → ((c : ℕ) (p : Write) → c < n → write_at ps c ≡ Some p → touches c p.key p.new) → Image ps F G → IsImage n touches F G
 round_image {n} {touches} {F} {G} ps all image = record {
-  each = λ c place l. left_cloud (touches c) (place_at ps c) (F c) (G c) (λ p e. all c p l e) (image.each c) place;
+  each = λ c place l. left_cloud (touches c) (write_at ps c) (F c) (G c) (λ p e. all c p l e) (image.each c) place;
 }
 
 pub round_is_image : RoundIsImage

@@ -1,14 +1,14 @@
 -- What is whole after a round, and what is the same.
 use Rattle.std.proofs.Common.{◌≡◌, ◌⊎◌, ◌<◌, ℕ, Option, None, Some, List, [], IfSome, refl, sym, ◌∙◌, subst, append-nil, inl, inr}
 use Rattle.nc_name.specs.declared.key.Key.{Key}
-use Rattle.nc_frame.specs.Frames.{Torn, Whole}
+use Rattle.nc_frame.specs.Frames.{AreTorn, Whole}
 use Rattle.nc_cloud.specs.Contents.{Contents, Fate, IsTorn}
 use Rattle.nc_cloud.specs.Contents.Fate.{stayed, became, went, broke}
 use Rattle.nc_state.specs.Standing.{WholeOrTorn}
 use Rattle.nc_state.specs.Rounds.{IsImage, Left, Touching}
 use Rattle.nc_state.specs.Rounds.Left.{untouched, touched}
 
-torn_not_whole : (bytes : List ℕ) → Torn bytes → Whole bytes → ⊥
+torn_not_whole : (bytes : List ℕ) → AreTorn bytes → Whole bytes → ⊥
 torn_not_whole bytes torn whole = torn.none_whole bytes [] (append-nil bytes) whole
 
 -- what is whole after a fate was there before, or was to be new
@@ -20,7 +20,7 @@ whole_fate old new left bytes (broke torn) is whole = absurd (torn_not_whole byt
 
 -- the object is whole or torn, where there is one
 abbrev pub IsEither : Option (List ℕ) → Type 0
-IsEither object = IfSome object (λ bytes. Whole bytes ⊎ Torn bytes)
+IsEither object = IfSome object (λ bytes. Whole bytes ⊎ AreTorn bytes)
 
 torn_either : (object : Option (List ℕ)) → IsTorn object → IsEither object
 torn_either None torn = tt
@@ -32,11 +32,11 @@ either_fate old new left (became e) o w = subst IsEither (sym e) w
 either_fate old new left (went e) o w = subst IsEither (sym e) tt
 either_fate old new left (broke torn) o w = torn_either left torn
 
-pub either_of : (object : Option (List ℕ)) → ((bytes : List ℕ) → object ≡ Some bytes → Whole bytes ⊎ Torn bytes) → IsEither object
+pub either_of : (object : Option (List ℕ)) → ((bytes : List ℕ) → object ≡ Some bytes → Whole bytes ⊎ AreTorn bytes) → IsEither object
 either_of None each = tt
 either_of (Some bytes) each = each bytes refl
 
-pub either_at : (object : Option (List ℕ)) (bytes : List ℕ) → IsEither object → object ≡ Some bytes → Whole bytes ⊎ Torn bytes
+pub either_at : (object : Option (List ℕ)) (bytes : List ℕ) → IsEither object → object ≡ Some bytes → Whole bytes ⊎ AreTorn bytes
 either_at object bytes either is = subst IsEither is either
 
 -- ---- rounds

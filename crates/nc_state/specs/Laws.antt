@@ -12,7 +12,7 @@ use Rattle.nc_name.specs.Names.{IsName}
 use Rattle.nc_frame.specs.Frames.{Sealed}
 use Rattle.nc_meta.specs.declared.meta.Meta.{Meta}
 use Rattle.nc_meta.specs.Metas.{IsLive, generation_of}
-use Rattle.nc_cloud.specs.Contents.{Contents, Place}
+use Rattle.nc_cloud.specs.Contents.{Contents, Write}
 use Rattle.nc_cloud.specs.Record.{nothing}
 use Rattle.nc_cloud.specs.Images.{Image}
 use Rattle.nc_state.specs.Clouds.{Clouds, count_of, no_cloud, with_cloud, without_cloud}
@@ -38,7 +38,7 @@ HeldIsSealed = (n : ℕ) (F : Contents) (name : List ℕ) (c : ℕ) (m : Meta) �
 
 -- what a round, or a stop within it, leaves is an image of its entries
 abbrev pub RoundIsImage : Type 0
-RoundIsImage = (n : ℕ) (ps : List Place) (F G : Contents) → Image ps F G → IsImage n (IsEntry ps) F G
+RoundIsImage = (n : ℕ) (ps : List Write) (F G : Contents) → Image ps F G → IsImage n (IsEntry ps) F G
 
 -- a loss keeps what stands, where at most two clouds are damaged then
 abbrev pub LossKeeps : Type 0

@@ -5,8 +5,8 @@ use Rattle.nc_name.specs.declared.key.Key.TheVariants as key
 use Rattle.nc_frame.specs.Frames.{Whole}
 use Rattle.nc_meta.specs.declared.meta.Meta.{Meta}
 use Rattle.nc_meta.specs.Metas.{generation_of}
-use Rattle.nc_cloud.specs.Contents.{Contents, Fate, Place}
-use Rattle.nc_cloud.specs.Images.{place_at}
+use Rattle.nc_cloud.specs.Contents.{Contents, Fate, Write}
+use Rattle.nc_cloud.specs.Images.{write_at}
 use Rattle.nc_state.specs.Clouds.{Clouds}
 use Rattle.nc_state.specs.Versions.{Version, meta_of}
 use Rattle.nc_state.specs.Holding.{Holds, meta_key, meta_object}
@@ -27,9 +27,9 @@ pub record IsImage (n : ℕ) (touches : Touching) (F G : Contents) : Type 0 wher
   pub each : (c : ℕ) (place : Key) → c < n → Left (touches c place) (F c place) (G c place)
 
 -- the entry of cloud c in a round
-pub record IsEntry (ps : List Place) (c : ℕ) (place : Key) (new : Option (List ℕ)) : Type 0 where
-  pub entry : Place
-  pub found : place_at ps c ≡ Some entry
+pub record IsEntry (ps : List Write) (c : ℕ) (place : Key) (new : Option (List ℕ)) : Type 0 where
+  pub entry : Write
+  pub found : write_at ps c ≡ Some entry
   pub at : place ≡ entry.key
   pub writes : new ≡ entry.new
 

@@ -8,7 +8,7 @@ use Rattle.std.specs.Str.{bytes_eq}
 use Rattle.nc_name.specs.declared.key.Key.{Key}
 use Rattle.nc_name.specs.declared.key.Key.TheVariants as key
 use Rattle.nc_name.specs.Names.{IsName}
-use Rattle.nc_frame.specs.Frames.{Torn, Whole}
+use Rattle.nc_frame.specs.Frames.{AreTorn, Whole}
 use Rattle.nc_meta.specs.declared.meta.Meta.{Meta}
 use Rattle.nc_meta.specs.Metas.{IsMeta, generation_of}
 use Rattle.nc_cloud.specs.Contents.{Contents}
@@ -32,7 +32,7 @@ with_entry S name e other = if bytes_eq other name then e else S other
 
 -- Each object is whole or torn.
 abbrev pub WholeOrTorn : ℕ → Contents → Type 0
-WholeOrTorn n F = (c : ℕ) (place : Key) (bytes : List ℕ) → c < n → F c place ≡ Some bytes → Whole bytes ⊎ Torn bytes
+WholeOrTorn n F = (c : ℕ) (place : Key) (bytes : List ℕ) → c < n → F c place ≡ Some bytes → Whole bytes ⊎ AreTorn bytes
 
 -- What is whole under a key of metadata is a meta of this name, sealed for its cloud, in the slot of its generation.
 abbrev pub MetasSealed : ℕ → Contents → Type 0

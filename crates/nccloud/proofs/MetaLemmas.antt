@@ -17,7 +17,7 @@ use Rattle.nc_name.specs.declared.key.Key.TheVariants.{Meta, Chunk}
 use Rattle.nc_name.specs.Keys.{key_text}
 use Rattle.nc_frame.specs.Frames.{HasFrame, Whole}
 use Rattle.nc_cloud.specs.declared.fleet.Job.{Job}
-use Rattle.nc_cloud.specs.Fleet.{places}
+use Rattle.nc_cloud.specs.Fleet.{writes}
 use Rattle.nc_cloud.specs.Rounds.{row}
 use Rattle.nc_meta.specs.declared.meta.Meta.TheVariants.{Live}
 use Rattle.nc_meta.specs.Metas.{Spells}
@@ -91,7 +91,7 @@ module _ (good : GoodParts) (v : List ℕ) (chunks marks : List (List ℕ)) (are
 
   -- the writes of chunks and metadata are those of the file
   pub prepared : (name payload : List ℕ) (first second metas : List Job) → Spells n payload (Live (first_meta n good v))
-      → places first ≡ row (chunk_place n name chunks 0) 0 n → places second ≡ row (chunk_place n name chunks 1) 0 n → places metas ≡ row (meta_place n name payload) 0 n
+      → writes first ≡ row (chunk_place n name chunks 0) 0 n → writes second ≡ row (chunk_place n name chunks 1) 0 n → writes metas ≡ row (meta_place n name payload) 0 n
       → All (λ j. Whole j.bytes) first → All (λ j. Whole j.bytes) second → All (λ j. Whole j.bytes) metas
       → ((c : ℕ) → c < n → HasFrame c n (key_text (Chunk name 0 0)) (get_or chunks (2 * c + 0) [])) → ((c : ℕ) → c < n → HasFrame c n (key_text (Chunk name 0 1)) (get_or chunks (2 * c + 1) []))
       → ((c : ℕ) → c < n → HasFrame c n (key_text (Meta name 1)) payload) → IsPrepared n good name v first second metas

@@ -4,7 +4,7 @@ use Rattle.nc_name.specs.declared.key.Key.TheVariants.{Meta, Chunk}
 use Rattle.nc_cloud.specs.declared.fleet.Job.{Job}
 use Rattle.nc_cloud.specs.Contents.{Contents}
 use Rattle.nc_cloud.specs.Images.{Image}
-use Rattle.nc_cloud.specs.Fleet.{place, places}
+use Rattle.nc_cloud.specs.Fleet.{write, writes}
 use Rattle.nc_native.specs.Native.{combination}
 use Rattle.nc_code.specs.Codes.{code_row}
 use Rattle.nc_nextloss.specs.GoodCodes.{GoodParts}
@@ -20,20 +20,20 @@ widened n m good name v first second metas same made = subst (λ k. IsPrepared k
 module _ (n : ℕ) (good : GoodParts) (name v : List ℕ) (first second metas : List Job) (made : IsPrepared n good name v first second metas) where
   -- each round has one write for each cloud
   pub first_by_cloud : AreByCloud (λ j. j.cloud) n first
-  first_by_cloud = by_cloud_row place (λ p. p.cloud) (file_place n good.code name v 0) (λ k. refl) n first made.first_places
+  first_by_cloud = by_cloud_row write (λ p. p.cloud) (file_place n good.code name v 0) (λ k. refl) n first made.first_places
 
   pub second_by_cloud : AreByCloud (λ j. j.cloud) n second
-  second_by_cloud = by_cloud_row place (λ p. p.cloud) (file_place n good.code name v 1) (λ k. refl) n second made.second_places
+  second_by_cloud = by_cloud_row write (λ p. p.cloud) (file_place n good.code name v 1) (λ k. refl) n second made.second_places
 
   pub metas_by_cloud : AreByCloud (λ j. j.cloud) n metas
-  metas_by_cloud = by_cloud_row place (λ p. p.cloud) (meta_place n name made.payload) (λ k. refl) n metas made.meta_places
+  metas_by_cloud = by_cloud_row write (λ p. p.cloud) (meta_place n name made.payload) (λ k. refl) n metas made.meta_places
 
   -- and touches only objects of the name
-  pub first_only : (F G : Contents) → Image (places first) F G → ChangesOnlyName name F G
+  pub first_only : (F G : Contents) → Image (writes first) F G → ChangesOnlyName name F G
   first_only F G image = only_name n (Chunk name 0 0) (λ c. combination (code_row good.code c 0) v n) _ made.first_places F G name refl image
 
-  pub second_only : (F G : Contents) → Image (places second) F G → ChangesOnlyName name F G
+  pub second_only : (F G : Contents) → Image (writes second) F G → ChangesOnlyName name F G
   second_only F G image = only_name n (Chunk name 0 1) (λ c. combination (code_row good.code c 1) v n) _ made.second_places F G name refl image
 
-  pub metas_only : (F G : Contents) → Image (places metas) F G → ChangesOnlyName name F G
+  pub metas_only : (F G : Contents) → Image (writes metas) F G → ChangesOnlyName name F G
   metas_only F G image = only_name n (Meta name 1) (λ c. made.payload) _ made.meta_places F G name refl image

@@ -9,16 +9,16 @@ use Rattle.nc_native.specs.Native.{combination}
 use Rattle.nc_code.specs.Codes.{code_row}
 use Rattle.nc_nextloss.specs.GoodCodes.{GoodParts}
 use Rattle.nc_cloud.specs.declared.fleet.Job.{Job}
-use Rattle.nc_cloud.specs.Contents.{Contents, Store, Place}
+use Rattle.nc_cloud.specs.Contents.{Contents, Store, Write}
 use Rattle.nc_cloud.specs.Images.{Image, Written}
-use Rattle.nc_cloud.specs.Fleet.{places}
+use Rattle.nc_cloud.specs.Fleet.{writes}
 use Rattle.nc_cloud.specs.Rounds.{row}
 use Rattle.nc_cloud.proofs.Images.{image_in, image_out, written_in, written_out}
 use Rattle.nccloud.specs.Store.{sealed_place, file_place, meta_place, Holds, ChangesOnlyName, Stores, IsPrepared}
 
 -- a round over one key of each cloud
-module _ (n : ℕ) (key : Key) (payload : ℕ → List ℕ) (ps : List Place) (all : ps ≡ row (λ c. sealed_place n c key (payload c)) 0 n) (F G : Contents) where
-  abbrev f : ℕ → Place
+module _ (n : ℕ) (key : Key) (payload : ℕ → List ℕ) (ps : List Write) (all : ps ≡ row (λ c. sealed_place n c key (payload c)) 0 n) (F G : Contents) where
+  abbrev f : ℕ → Write
   f c = sealed_place n c key (payload c)
 
   -- another key stays
@@ -52,7 +52,7 @@ holds_frame n G c key payload fits is = rw is (record { fits = fits; is_frame = 
 
 -- all three rounds of put
 module _ (n : ℕ) (good : GoodParts) (name v : List ℕ) (first second metas : List Job) (made : IsPrepared n good name v first second metas) (F G H K : Contents)
-    (one : Written (places first) F G) (two : Written (places second) G H) (three : Written (places metas) H K) where
+    (one : Written (writes first) F G) (two : Written (writes second) G H) (three : Written (writes metas) H K) where
   abbrev chunk : ℕ → ℕ → List ℕ
   chunk r c = combination (code_row good.code c r) v n
 
@@ -91,6 +91,6 @@ module _ (n : ℕ) (good : GoodParts) (name v : List ℕ) (first second metas : 
   }
 
 -- of whichever file they are the rounds
-pub stored_of : (n : ℕ) (first second metas : List Job) (F G H K : Contents) → Written (places first) F G → Written (places second) G H → Written (places metas) H K
+pub stored_of : (n : ℕ) (first second metas : List Job) (F G H K : Contents) → Written (writes first) F G → Written (writes second) G H → Written (writes metas) H K
     → (good : GoodParts) (name v : List ℕ) → IsPrepared n good name v first second metas → Stores n good name v F K
 stored_of n first second metas F G H K one two three good name v made = stored n good name v first second metas made F G H K one two three

@@ -2,7 +2,7 @@
 use Rattle.std.specs.Prelude.{ℕ, ◌≡◌, ◌≤◌, ◌<◌, ◌+◌, Option, List, length}
 use Rattle.std.specs.Io.KnownBytes.{Consumes, IsAtEnd}
 use Rattle.nc_name.specs.declared.name.NameFault.{NameFault}
-use Rattle.nc_name.specs.Names.{Refuses}
+use Rattle.nc_name.specs.Names.{RefusesName}
 use Rattle.nc_cloud.specs.Contents.{Contents, Rose}
 use Rattle.nccloud.specs.declared.setting.Setting.{Setting}
 use Rattle.nccloud.specs.declared.status.Fault.{Fault}
@@ -19,7 +19,7 @@ IsWide n = (4 ≤ n) × (n ≤ 10)
 
 -- the words are a command with an argument that is no name, for this cause
 abbrev pub HasBadName : List (List ℕ) → NameFault → Type 0
-HasBadName words f = (text : List ℕ) × IsCommandOf words text × Refuses text f
+HasBadName words f = (text : List ℕ) × IsCommandOf words text × RefusesName text f
 
 -- a status that comes before any call on the fleet
 abbrev pub IsEarly : Status → Type 0

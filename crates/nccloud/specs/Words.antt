@@ -1,6 +1,6 @@
 -- What the words of a run mean.
 use Rattle.std.specs.Prelude.{ℕ, ◌≡◌, ◌⊎◌, List, [], ◌∷◌, codes}
-use Rattle.nc_name.specs.Names.{IsName, Refuses}
+use Rattle.nc_name.specs.Names.{IsName, RefusesName}
 use Rattle.nccloud.specs.declared.words.Command.{Command}
 use Rattle.nccloud.specs.declared.words.Command.TheVariants.{Put, Get}
 use Rattle.nccloud.specs.declared.words.WordFault.{WordFault}
@@ -49,9 +49,9 @@ Asks words command = (words ≡ command_words command) × IsName (target command
 -- why the words ask for nothing
 abbrev pub RefusesWords : List (List ℕ) → WordFault → Type 0
 RefusesWords words Usage = (text : List ℕ) → IsCommandOf words text → ⊥
-RefusesWords words (Name fault) = (text : List ℕ) × IsCommandOf words text × Refuses text fault
+RefusesWords words (Name fault) = (text : List ℕ) × IsCommandOf words text × RefusesName text fault
 
 -- why a text is no name
 abbrev pub RefusesText : List ℕ → WordFault → Type 0
 RefusesText text Usage = ⊥
-RefusesText text (Name fault) = Refuses text fault
+RefusesText text (Name fault) = RefusesName text fault

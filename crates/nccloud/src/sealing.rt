@@ -3,7 +3,7 @@ ghost use Rattle.sha2.specs.Sha256.{sha256};
 ghost use Rattle.nc_name.specs.Names.{IsName};
 ghost use Rattle.nc_name.specs.Keys.{key_text, Slots};
 ghost use Rattle.nc_frame.specs.Frames.{HasFrame, Whole};
-ghost use Rattle.nc_cloud.specs.Fleet.{place, places};
+ghost use Rattle.nc_cloud.specs.Fleet.{write, writes};
 ghost use Rattle.nc_cloud.specs.Rounds.{row};
 ghost use Rattle.nccloud.specs.Store.{sealed_place, chunk_place, meta_place};
 
@@ -22,7 +22,7 @@ pub fn sealed_job(
     payload: &[u8],
 ) -> Result<Job, Memory>
     requires { Slots key.now }
-    ensures place { IfOk result (λ job. place job ≡ sealed_place width cloud key.now payload.now) }
+    ensures place { IfOk result (λ job. write job ≡ sealed_place width cloud key.now payload.now) }
     ensures whole { IfOk result (λ job. Whole job.bytes) }
     ensures fits { OnOk result (HasFrame cloud width (key_text key.now) payload.now) }
 {
@@ -49,8 +49,8 @@ pub fn seal_chunks(
     chunks: Chunks,
 ) -> Result<ChunkJobs, Memory>
     requires { length chunks ≡ 2 * width }
-    ensures first { IfOk result (λ jobs. places jobs.first.items ≡ row (chunk_place width name.now chunks 0) 0 width) }
-    ensures second { IfOk result (λ jobs. places jobs.second.items ≡ row (chunk_place width name.now chunks 1) 0 width) }
+    ensures first { IfOk result (λ jobs. writes jobs.first.items ≡ row (chunk_place width name.now chunks 0) 0 width) }
+    ensures second { IfOk result (λ jobs. writes jobs.second.items ≡ row (chunk_place width name.now chunks 1) 0 width) }
     ensures whole_first { IfOk result (λ jobs. All (λ j. Whole j.bytes) jobs.first.items) }
     ensures first_fits { OnOk result ((c : ℕ) → c < width → HasFrame c width (key_text (Key.Chunk name.now 0 0)) (slice_index_or chunks (2 * c + 0) [])) }
     ensures second_fits { OnOk result ((c : ℕ) → c < width → HasFrame c width (key_text (Key.Chunk name.now 0 1)) (slice_index_or chunks (2 * c + 1) [])) }
@@ -91,7 +91,7 @@ fn push_sealed(
 ) -> Result<(), Memory>
     requires slots { Slots key.now }
     requires whole { All (λ j. Whole j.bytes) jobs.old.items }
-    ensures places { OnOk result (places jobs.new.items ≡ places jobs.old.items ++ sealed_place width cloud key.now payload.now ∷ []) }
+    ensures places { OnOk result (writes jobs.new.items ≡ writes jobs.old.items ++ sealed_place width cloud key.now payload.now ∷ []) }
     ensures whole { OnOk result (All (λ j. Whole j.bytes) jobs.new.items) }
     ensures fits { OnOk result (HasFrame cloud width (key_text key.now) payload.now) }
 {
@@ -121,7 +121,7 @@ fn meta_key(name: &Name) -> Key
 
 /// Seals the metadata for each cloud.
 pub fn seal_metas(alloc: Global, name: &Name, width: u8, payload: &Blob) -> Result<Vec<Job>, Memory>
-    ensures places { IfOk result (λ jobs. places jobs.items ≡ row (meta_place width name.now payload.now) 0 width) }
+    ensures places { IfOk result (λ jobs. writes jobs.items ≡ row (meta_place width name.now payload.now) 0 width) }
     ensures whole { IfOk result (λ jobs. All (λ j. Whole j.bytes) jobs.items) }
     ensures fits { OnOk result ((c : ℕ) → c < width → HasFrame c width (key_text (Key.Meta name.now 1)) payload.now) }
 {

@@ -3,7 +3,7 @@ use Rattle.std.proofs.Common.{◌<◌, ◌+◌, ◌*◌, slice_index_or, []}
 use Rattle.nc_name.specs.declared.key.Key.TheVariants.{Meta, Chunk}
 use Rattle.nc_name.specs.Keys.{key_text}
 use Rattle.nc_frame.specs.Frames.{HasFrame}
-use Rattle.nc_cloud.specs.Fleet.{places}
+use Rattle.nc_cloud.specs.Fleet.{writes}
 use Rattle.nc_cloud.specs.Rounds.{row}
 use Rattle.nccloud.specs.Store.{chunk_place, meta_place}
 use Rattle.nc_code.specs.Parts.{CodeParts}
@@ -29,9 +29,9 @@ returns c v len are =
     let name : List ℕ = c.args.name.now in
     let chunks : List (List ℕ) = c.args.chunks in
     prepared good v chunks c.marks_of-marks.result are marks name c.in_ok-payload.payload _ _ _ spells
-    (subst (λ k. places c.in_ok-first.field-0.first.items ≡ row (chunk_place k name chunks 0) 0 k) width s.first)
-    (subst (λ k. places c.in_ok-first.field-0.second.items ≡ row (chunk_place k name chunks 1) 0 k) width s.second)
-    (subst (λ k. places c.in_ok-metas.metas.items ≡ row (meta_place k name c.in_ok-payload.payload) 0 k) width m.places)
+    (subst (λ k. writes c.in_ok-first.field-0.first.items ≡ row (chunk_place k name chunks 0) 0 k) width s.first)
+    (subst (λ k. writes c.in_ok-first.field-0.second.items ≡ row (chunk_place k name chunks 1) 0 k) width s.second)
+    (subst (λ k. writes c.in_ok-metas.metas.items ≡ row (meta_place k name c.in_ok-payload.payload) 0 k) width m.places)
     s.whole_first s.whole_second m.whole
     (subst (λ k. (d : ℕ) → d < k → HasFrame d k (key_text (Chunk name 0 0)) (slice_index_or chunks (2 * d + 0) [])) width s.first_fits)
     (subst (λ k. (d : ℕ) → d < k → HasFrame d k (key_text (Chunk name 0 1)) (slice_index_or chunks (2 * d + 1) [])) width s.second_fits)
