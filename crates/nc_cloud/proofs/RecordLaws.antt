@@ -20,7 +20,7 @@ use Rattle.nc_cloud.specs.declared.fleet.Done.{Done}
 use Rattle.nc_cloud.specs.declared.fleet.Done.TheVariants as done
 use Rattle.nc_cloud.specs.declared.fleet.Answer.{Answer}
 use Rattle.nc_cloud.specs.declared.fleet.Answer.TheVariants.{Waiting, Bytes, Absent, Long, Failed, Memory}
-use Rattle.nc_cloud.specs.declared.record.Torn.{AreTorn}
+use Rattle.nc_cloud.specs.declared.record.Torn.{Torn}
 use Rattle.nc_cloud.specs.declared.record.Torn.TheVariants.{Old, New, Gone, Broken}
 use Rattle.nc_cloud.specs.declared.record.Refusal.{Refusal}
 use Rattle.nc_cloud.specs.declared.record.Look.{Look}
@@ -85,7 +85,7 @@ stays false old new not_so = refl
 
 module _ (key : Key) (bytes : List ℕ) (whole : Whole bytes) where
   -- an object after its put
-  left_settles : (refused : Option AreTorn) (old : Option (List ℕ)) → Settles (is_done (done_of refused)) (Some bytes) old (left refused bytes old)
+  left_settles : (refused : Option Torn) (old : Option (List ℕ)) → Settles (is_done (done_of refused)) (Some bytes) old (left refused bytes old)
   left_settles None old = refl
   left_settles (Some Old) old = stayed refl
   left_settles (Some New) old = became refl
@@ -93,7 +93,7 @@ module _ (key : Key) (bytes : List ℕ) (whole : Whole bytes) where
   left_settles (Some Broken) old = broke (broken_is_torn bytes whole)
 
   -- a cloud after its put
-  step_changes : (refused : Option AreTorn) (old : Store) → ChangesAt key (Settles (is_done (done_of refused)) (Some bytes)) old (λ q. if key_eq key q then left refused bytes (old q) else old q)
+  step_changes : (refused : Option Torn) (old : Store) → ChangesAt key (Settles (is_done (done_of refused)) (Some bytes)) old (λ q. if key_eq key q then left refused bytes (old q) else old q)
   step_changes refused old = record {
     there =
         let same : key_eq key key ≡ true = (key_eq-Decides key key).1 refl in
@@ -166,7 +166,7 @@ failures_after_gets log (a ∷ asks) c =
     failures-more log (Gets (map look_of (a ∷ asks))) c
     ∙ ap (λ n. failures log c + n) (tally-map (λ l. nat_eq l.cloud c && l.failed) look_of (a ∷ asks))
 
-same_failed : (refused : Option AreTorn) → is_some refused ≡ is_failed_done (done_of refused)
+same_failed : (refused : Option Torn) → is_some refused ≡ is_failed_done (done_of refused)
 unfolding is_failed_done
 same_failed None = refl
 same_failed (Some outcome) = refl
@@ -305,7 +305,7 @@ sized most bytes true (inr p) = cc
 sized most bytes false (inl p) = cc
 sized most bytes false (inr p) = (bytes, refl, p.1)
 
-shows : (refused : Option AreTorn) (most : ℕ) (held : Option (List ℕ)) → Shows (answer_of refused most held) most held
+shows : (refused : Option Torn) (most : ℕ) (held : Option (List ℕ)) → Shows (answer_of refused most held) most held
 shows (Some outcome) most held = tt
 shows None most None = refl
 shows None most (Some bytes) = sized most bytes (nat_le (length bytes) most) (leb_tells (length bytes) most)
@@ -330,7 +330,7 @@ module _ (refusals : List Refusal) (n : ℕ) (log : List Event) (asks : List Ask
   asks_answered = all_numbered (λ x. x.answer ≢ Waiting) (answered_ask refusals log) (λ k a. shown_answered _ _ _ (shows (refused_at refusals k) a.most (value log a.cloud a.key None))) n asks
 
 -- a round of puts that was served
-done_answered : (refused : Option AreTorn) → done_of refused ≢ done.Waiting
+done_answered : (refused : Option Torn) → done_of refused ≢ done.Waiting
 done_answered None e = cc
 done_answered (Some outcome) e = cc
 

@@ -68,46 +68,46 @@ module _ {old new : MemFleet} {asks left : List Ask} where
 module _ {old new : MemFleet} {jobs left : List Job} where
   pub puts_entries : ServesPuts old new jobs left → writes left ≡ writes jobs
   puts_entries (puts_starved answers same) = ap writes answers ∙ starved_places jobs
-  puts_entries (puts_served writes) = ap writes writes.answers ∙ places_same (refusals_of old) (entries_of old) jobs
+  puts_entries (puts_served done_by) = ap writes done_by.answers ∙ places_same (refusals_of old) (entries_of old) jobs
 
   pub puts_answered : ServesPuts old new jobs left → All (λ j. j.done ≢ done.Waiting) left
   puts_answered (puts_starved answers same) = subst (All (λ j. j.done ≢ done.Waiting)) (sym answers) (All-map (λ j. j.done ≢ done.Waiting) starved_job jobs (λ k d l e. cc))
-  puts_answered (puts_served writes) = subst (All (λ j. j.done ≢ done.Waiting)) (sym writes.answers) (jobs_answered (refusals_of old) (entries_of old) jobs)
+  puts_answered (puts_served done_by) = subst (All (λ j. j.done ≢ done.Waiting)) (sym done_by.answers) (jobs_answered (refusals_of old) (entries_of old) jobs)
 
   pub puts_told : All (λ j. Whole j.bytes) jobs → ServesPuts old new jobs left → Leaves (touches left) (contents_of old) (contents_of new)
   puts_told whole (puts_starved answers same) =
       subst (λ js. Leaves (touches js) (contents_of old) (contents_of new)) (sym answers)
       (subst (λ es. Leaves (touches (map starved_job jobs)) (contents_of old) (contents_after es nothing)) (sym same.log) (starved_leaves jobs (contents_of old)))
-  puts_told whole (puts_served writes) =
+  puts_told whole (puts_served done_by) =
       let after : contents_of new ≡ (λ c key. step_value (step_at (steps_of (refusals_of old) (entries_of old) jobs) c) key (contents_of old c key))
-      = ap (λ es. contents_after es nothing) writes.log ∙ held_after_puts (log_of old) (steps_of (refusals_of old) (entries_of old) jobs) in
-      subst (λ js. Leaves (touches js) (contents_of old) (contents_of new)) (sym writes.answers)
+      = ap (λ es. contents_after es nothing) done_by.log ∙ held_after_puts (log_of old) (steps_of (refusals_of old) (entries_of old) jobs) in
+      subst (λ js. Leaves (touches js) (contents_of old) (contents_of new)) (sym done_by.answers)
       (subst (Leaves (touches (done_jobs (refusals_of old) (entries_of old) jobs)) (contents_of old)) (sym after) (leaves_puts (refusals_of old) (entries_of old) jobs (contents_of old) whole))
 
   pub puts_failed : ServesPuts old new jobs left → All (λ j. j.done ≡ done.Failed → Rose (faults_of old j.cloud) (faults_of new j.cloud)) left
   puts_failed (puts_starved answers same) =
       let P : Job → Type 0 = λ j. j.done ≡ done.Failed → Rose (faults_of old j.cloud) (faults_of new j.cloud) in
       subst (All P) (sym answers) (All-map P starved_job jobs (λ k d l e. cc))
-  puts_failed (puts_served writes) =
+  puts_failed (puts_served done_by) =
       let P : List Event → Job → Type 0 = λ es j. j.done ≡ done.Failed → Rose (faults_of old j.cloud) (counted (failures es j.cloud)) in
-      subst (All (P (log_of new))) (sym writes.answers)
-      (subst (λ es. All (P es) (done_jobs (refusals_of old) (entries_of old) jobs)) (sym writes.log) (puts_rose (log_of old) (refusals_of old) (entries_of old) jobs))
+      subst (All (P (log_of new))) (sym done_by.answers)
+      (subst (λ es. All (P es) (done_jobs (refusals_of old) (entries_of old) jobs)) (sym done_by.log) (puts_rose (log_of old) (refusals_of old) (entries_of old) jobs))
 
   pub puts_exactly : ServesPuts old new jobs left → (c : ℕ) → All (λ j. j.cloud ≡ c → j.done ≢ done.Failed) left → faults_of new c ≡ faults_of old c
   puts_exactly (puts_starved answers same) c none = ap (λ es. counted (failures es c)) same.log
-  puts_exactly (puts_served writes) c none =
-      ap (λ es. counted (failures es c)) writes.log
-      ∙ puts_exact (log_of old) (refusals_of old) (entries_of old) jobs c (subst (All (λ j. j.cloud ≡ c → j.done ≢ done.Failed)) writes.answers none)
+  puts_exactly (puts_served done_by) c none =
+      ap (λ es. counted (failures es c)) done_by.log
+      ∙ puts_exact (log_of old) (refusals_of old) (entries_of old) jobs c (subst (All (λ j. j.cloud ≡ c → j.done ≢ done.Failed)) done_by.answers none)
 
   pub puts_grows : ServesPuts old new jobs left → Grows (faults_of old) (faults_of new)
   puts_grows (puts_starved answers same) c = let e : faults_of new c ≡ faults_of old c = ap (λ es. counted (failures es c)) same.log in omega (arith, e)
-  puts_grows (puts_served writes) c = subst (λ es. faults_of old c ≤ counted (failures es c)) (sym writes.log) (puts_grow (log_of old) (refusals_of old) (entries_of old) jobs c)
+  puts_grows (puts_served done_by) c = subst (λ es. faults_of old c ≤ counted (failures es c)) (sym done_by.log) (puts_grow (log_of old) (refusals_of old) (entries_of old) jobs c)
 
   pub puts_given_all : ServesPuts old new jobs left → chunk_gets_of new ≡ chunk_gets_of old
   puts_given_all (puts_starved answers same) = ap (λ es c. counted (gifts es c)) same.log
-  puts_given_all (puts_served writes) =
-      ap (λ es c. counted (gifts es c)) writes.log ∙ (λ i c. puts_given (log_of old) (steps_of (refusals_of old) (entries_of old) jobs) c i)
+  puts_given_all (puts_served done_by) =
+      ap (λ es c. counted (gifts es c)) done_by.log ∙ (λ i c. puts_given (log_of old) (steps_of (refusals_of old) (entries_of old) jobs) c i)
 
   pub puts_width : ServesPuts old new jobs left → width_of new ≡ width_of old
   puts_width (puts_starved answers same) = same.width
-  puts_width (puts_served writes) = writes.width
+  puts_width (puts_served done_by) = done_by.width
