@@ -5,7 +5,7 @@ use Rattle.nc_meta.specs.declared.meta.Meta.{Meta}
 use Rattle.nc_meta.specs.Metas.{generation_of}
 use Rattle.nc_cloud.specs.Contents.{Contents}
 use Rattle.nc_state.specs.Versions.{Version, meta_of, version_generation}
-use Rattle.nc_state.specs.Holding.{HoldsMeta, NoneAbove, holds}
+use Rattle.nc_state.specs.Holding.{HoldsIfAny, NoneAbove, holds}
 use Rattle.nc_state.specs.Entries.{Entry}
 use Rattle.nc_state.specs.Entries.Entry.{Opened}
 use Rattle.nc_state.specs.Weighing.{settled, some_holds, weigh}
@@ -17,7 +17,7 @@ use Rattle.nc_state.proofs.MetaWrites.{generation_is}
 
 -- a cloud that holds a version's meta holds none as low as g
 held_above : (n : ℕ) (G : Contents) (name : List ℕ) (g : ℕ) (y : Version) (o : Option Meta) → meta_of y ≡ o → NoneAbove n G name g → g < version_generation y
-    → (c : ℕ) → c < n → HoldsMeta n G name c o → ⊥
+    → (c : ℕ) → c < n → HoldsIfAny n G name c o → ⊥
 held_above n G name g y None is below high c l h = let e : version_generation y ≡ 0 = ap (λ o. option_map_or generation_of o 0) is in omega arith
 held_above n G name g y (Some k) is below high c l h =
     let low : generation_of k ≤ g = below c k l h in

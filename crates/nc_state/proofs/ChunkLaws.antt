@@ -18,7 +18,7 @@ use Rattle.nc_frame.specs.Frames.{Sealed}
 use Rattle.nc_cloud.specs.Contents.{Contents}
 use Rattle.nc_state.specs.Versions.{Version}
 use Rattle.nc_state.specs.Versions.Version.{Never, Removed, Stored}
-use Rattle.nc_state.specs.Right.{IsChunk, IsRight, Names, PlacesStand, RightOn, free_slot, free_slot_of, payload_at}
+use Rattle.nc_state.specs.Right.{IsChunk, IsRight, HasChunkAt, PlacesStand, RightOn, free_slot, free_slot_of, payload_at}
 use Rattle.nc_state.specs.Laws.{FreeSlotIsFree, MendedIsFree, MendedIsValid, MendedPlacesStand, RemovedPlacesStand, RightPlacesStand}
 
 differs : (slot : ℕ) → (if slot == 0 then 1 else 0) ≡ slot → ⊥
@@ -29,7 +29,7 @@ differs slot e =
     ]
 
 -- no version has a chunk in the slot that is free
-not_in_free : (name : List ℕ) (x : Version) (c : ℕ) (other : List ℕ) (row : ℕ) → Names name x c (key.Chunk other (free_slot_of x c) row) → ⊥
+not_in_free : (name : List ℕ) (x : Version) (c : ℕ) (other : List ℕ) (row : ℕ) → HasChunkAt name x c (key.Chunk other (free_slot_of x c) row) → ⊥
 not_in_free name Never c other row names = names
 not_in_free name (Removed generation) c other row names = names
 not_in_free name (Stored m v) c other row names = differs (slice_index m.slots c) names.1
@@ -37,7 +37,7 @@ not_in_free name (Stored m v) c other row names = differs (slice_index m.slots c
 pub free_slot_is_free : FreeSlotIsFree
 free_slot_is_free name x m v c (key.Meta other slot) free new old = new
 free_slot_is_free name x m v c (key.Chunk other slot row) free new old =
-    not_in_free name x c other row (subst (λ (s : ℕ). Names name x c (key.Chunk other s row)) (new.1 ∙ free) old)
+    not_in_free name x c other row (subst (λ (s : ℕ). HasChunkAt name x c (key.Chunk other s row)) (new.1 ∙ free) old)
 
 -- what stands at a right place is its chunk
 right_chunk : (n : ℕ) (F : Contents) (x : Version) (c : ℕ) (place : Key) (bytes : List ℕ) → IsRight n F x c place → F c place ≡ Some bytes → IsChunk n x c place bytes
@@ -52,7 +52,7 @@ right_places_stand n F D name y right = record {
   right = λ c place l out names. right c l place names;
 }
 
-removed_names : (name : List ℕ) (generation c : ℕ) (place : Key) → Names name (Removed generation) c place → ⊥
+removed_names : (name : List ℕ) (generation c : ℕ) (place : Key) → HasChunkAt name (Removed generation) c place → ⊥
 removed_names name generation c (key.Meta other slot) names = names
 removed_names name generation c (key.Chunk other slot row) names = names
 
@@ -65,13 +65,13 @@ as_chunk n x y c place bytes e is = subst (λ (p : List ℕ). Sealed bytes c n (
 
 -- a version that has the chunks of another on all clouds but one
 others_stand : (n i : ℕ) (F : Contents) (D : Clouds) (name : List ℕ) (x y : Version)
-    → ((c : ℕ) (place : Key) → c ≢ i → Names name y c place → Names name x c place × (payload_at n y c place ≡ payload_at n x c place))
+    → ((c : ℕ) (place : Key) → c ≢ i → HasChunkAt name y c place → HasChunkAt name x c place × (payload_at n y c place ≡ payload_at n x c place))
     → RightOn n F name y i → PlacesStand n F D name x → PlacesStand n F D name y
 others_stand n i F D name x y others mended p = record {
   sound = λ c place bytes l names is whole.
       elim (eqb_tells c i) [
         | inl here ↦
-            let there : Names name y i place = subst (λ (k : ℕ). Names name y k place) here.1 names in
+            let there : HasChunkAt name y i place = subst (λ (k : ℕ). HasChunkAt name y k place) here.1 names in
             let at : F i place ≡ Some bytes = subst (λ (k : ℕ). F k place ≡ Some bytes) here.1 is in
             subst (λ (k : ℕ). IsChunk n y k place bytes) (sym here.1) (right_chunk n F y i place bytes (mended place there) at)
         | inr other ↦
@@ -81,7 +81,7 @@ others_stand n i F D name x y others mended p = record {
   right = λ c place l out names.
       elim (eqb_tells c i) [
         | inl here ↦
-            let there : Names name y i place = subst (λ (k : ℕ). Names name y k place) here.1 names in
+            let there : HasChunkAt name y i place = subst (λ (k : ℕ). HasChunkAt name y k place) here.1 names in
             subst (λ (k : ℕ). IsRight n F y k place) (sym here.1) (mended place there)
         | inr other ↦
             let old = others c place other.1 names in
@@ -99,7 +99,7 @@ module _ (n i : ℕ) (name : List ℕ) (plan : PlanParts) (old m : Live) (v : Li
   slot_stays : (c : ℕ) → c ≢ i → slice_index m.slots c ≡ slice_index old.slots c
   slot_stays c other = ap (λ (s : List ℕ). slice_index s c) is.slots ∙ get_or-set_other old.slots i c (free_slot (meta.Live old) i) 0 other
 
-  chunk_stays : (c : ℕ) (place : Key) → c ≢ i → Names name (Stored m v) c place → Names name (Stored old v) c place × (payload_at n (Stored m v) c place ≡ payload_at n (Stored old v) c place)
+  chunk_stays : (c : ℕ) (place : Key) → c ≢ i → HasChunkAt name (Stored m v) c place → HasChunkAt name (Stored old v) c place × (payload_at n (Stored m v) c place ≡ payload_at n (Stored old v) c place)
   chunk_stays c (key.Meta other slot) differs names = absurd names
   chunk_stays c (key.Chunk other slot row) differs names =
       ((names.0, names.1 ∙ slot_stays c differs, names.2), ap (λ (r : List ℕ). combination r v n) (row_stays c row differs names.2))

@@ -6,7 +6,7 @@ use Rattle.nc_meta.specs.declared.meta.Meta.{Meta}
 use Rattle.nc_cloud.specs.Contents.{Contents}
 use Rattle.nc_state.specs.Clouds.{Clouds}
 use Rattle.nc_state.specs.Versions.{Version, meta_of, version_generation}
-use Rattle.nc_state.specs.Holding.{AllHold, HoldsMeta, NoneAbove}
+use Rattle.nc_state.specs.Holding.{AllHold, HoldsIfAny, NoneAbove}
 use Rattle.nc_state.specs.Entries.{Entry, HasEntry}
 use Rattle.nc_state.specs.Entries.Entry.{Rest, Opened}
 use Rattle.nc_state.specs.Weighing.{after, all_outside_hold, settled, some_holds, weigh}
@@ -76,7 +76,7 @@ settling n F G S D name m made is stands of_settled next image =
       },
     )
 
-held_of_none : (n : ℕ) (F : Contents) (name : List ℕ) (o : Option Meta) → o ≡ None → (c : ℕ) → HoldsMeta n F name c o
+held_of_none : (n : ℕ) (F : Contents) (name : List ℕ) (o : Option Meta) → o ≡ None → (c : ℕ) → HoldsIfAny n F name c o
 held_of_none n F name None is c = tt
 held_of_none n F name (Some m) is c = absurd cc
 

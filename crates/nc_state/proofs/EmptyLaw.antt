@@ -2,7 +2,7 @@
 use Rattle.std.proofs.Common.{◌≡◌, ℕ, zero, suc, List, refl, arith}
 use Rattle.nc_name.specs.declared.key.Key.{Key}
 use Rattle.nc_name.specs.declared.key.Key.TheVariants as key
-use Rattle.nc_state.specs.Right.{Names}
+use Rattle.nc_state.specs.Right.{HasChunkAt}
 use Rattle.nc_state.specs.Versions.Version.{Never}
 use Rattle.nc_state.specs.Clouds.{count_of, no_cloud}
 use Rattle.nc_state.specs.Laws.{EmptyStands}
@@ -11,7 +11,7 @@ count_none : (n : ℕ) → count_of n no_cloud ≡ 0
 count_none zero = refl
 count_none (suc n) = omega (arith, count_none n)
 
-names_never : (name : List ℕ) (c : ℕ) (place : Key) → Names name Never c place → ⊥
+names_never : (name : List ℕ) (c : ℕ) (place : Key) → HasChunkAt name Never c place → ⊥
 names_never name c (key.Meta other slot) names = names
 names_never name c (key.Chunk other slot row) names = names
 

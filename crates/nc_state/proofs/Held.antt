@@ -14,7 +14,7 @@ use Rattle.nc_cloud.specs.Contents.{Contents}
 use Rattle.nc_state.specs.Versions.{Version, IsValid, meta_of}
 use Rattle.nc_state.specs.Versions.Version.{Never, Removed, Stored}
 use Rattle.nc_state.specs.Laws.{HeldIsSealed}
-use Rattle.nc_state.specs.Holding.{HoldsMeta, HoldsVersion, holds, holds_meta, is_object, meta_key, meta_object}
+use Rattle.nc_state.specs.Holding.{HoldsIfAny, HoldsVersion, holds, holds_meta, is_object, meta_key, meta_object}
 
 object_is : (n : ℕ) (name : List ℕ) (c : ℕ) (m : Meta) → meta_object n name c m ≡ frame c n (key_text (meta_key name m)) (spelling n m)
 unfolding meta_object
@@ -51,7 +51,7 @@ is_object-Decides : (held : Option (List ℕ)) (object : List ℕ) → Decides (
 is_object-Decides None object = (λ e. absurd cc, λ e. absurd cc)
 is_object-Decides (Some bytes) object = (λ e. ap Some ((bytes_eq-Decides bytes object).0 e), λ e. (bytes_eq-Decides bytes object).1 cc)
 
-holds_meta-Decides : (n : ℕ) (F : Contents) (name : List ℕ) (m : Option Meta) → IfSome m (IsMeta n) → (c : ℕ) → Decides (holds_meta n F name m c) (HoldsMeta n F name c m)
+holds_meta-Decides : (n : ℕ) (F : Contents) (name : List ℕ) (m : Option Meta) → IfSome m (IsMeta n) → (c : ℕ) → Decides (holds_meta n F name m c) (HoldsIfAny n F name c m)
 holds_meta-Decides n F name None fits c = (λ e. tt, λ h. refl)
 holds_meta-Decides n F name (Some m) fits c =
     let same = is_object-Decides (F c (meta_key name m)) (meta_object n name c m) in

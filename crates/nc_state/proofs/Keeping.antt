@@ -10,14 +10,14 @@ use Rattle.nc_cloud.specs.Contents.{Contents}
 use Rattle.nc_state.specs.Clouds.{Clouds}
 use Rattle.nc_state.specs.Versions.{Version, meta_of}
 use Rattle.nc_state.specs.Versions.Version.{Never, Removed, Stored}
-use Rattle.nc_state.specs.Holding.{HeldOutside, Holds, HoldsMeta, meta_key}
-use Rattle.nc_state.specs.Right.{Names, PlacesStand}
+use Rattle.nc_state.specs.Holding.{HeldOutside, Holds, HoldsIfAny, meta_key}
+use Rattle.nc_state.specs.Right.{HasChunkAt, PlacesStand}
 use Rattle.nc_state.specs.Entries.{Rests, Between, Entry, HasEntry}
 use Rattle.nc_state.specs.Entries.Entry.{Rest, Opened}
 use Rattle.nc_state.proofs.Held.{object_whole}
 
 -- a place that a version of the name has is one of the name
-pub names_name : (name : List ℕ) (x : Version) (c : ℕ) (place : Key) → Names name x c place → name_of place ≡ name
+pub names_name : (name : List ℕ) (x : Version) (c : ℕ) (place : Key) → HasChunkAt name x c place → name_of place ≡ name
 names_name name x c (key.Meta other slot) names = absurd names
 names_name name (Stored m v) c (key.Chunk other slot row) names = names.0
 names_name name Never c (key.Chunk other slot row) names = absurd names
@@ -53,14 +53,14 @@ between_kept old held places_x places_y b = record {
 
 -- the meta is held where its place is the same
 pub holds_same : (n : ℕ) (F G : Contents) (name : List ℕ) (c : ℕ) (m : Option Meta) → ((k : Meta) → m ≡ Some k → G c (meta_key name k) ≡ F c (meta_key name k))
-    → HoldsMeta n F name c m → HoldsMeta n G name c m
+    → HoldsIfAny n F name c m → HoldsIfAny n G name c m
 holds_same n F G name c None same h = tt
 holds_same n F G name c (Some m) same h = record { is_meta = h.is_meta; stands = same m refl ∙ h.stands }
 
 -- the places of a version stand where they are the same outside E, and nothing whole is new at them
 pub places_kept : {n : ℕ} {F G : Contents} {D E : Clouds} {name : List ℕ} {x : Version} → ((c : ℕ) → E c ≡ false → D c ≡ false)
-    → ((c : ℕ) (place : Key) (bytes : List ℕ) → c < n → Names name x c place → G c place ≡ Some bytes → Whole bytes → F c place ≡ Some bytes)
-    → ((c : ℕ) (place : Key) → c < n → E c ≡ false → Names name x c place → G c place ≡ F c place)
+    → ((c : ℕ) (place : Key) (bytes : List ℕ) → c < n → HasChunkAt name x c place → G c place ≡ Some bytes → Whole bytes → F c place ≡ Some bytes)
+    → ((c : ℕ) (place : Key) → c < n → E c ≡ false → HasChunkAt name x c place → G c place ≡ F c place)
     → PlacesStand n F D name x → PlacesStand n G E name x
 places_kept fewer back same p = record {
   sound = λ c place bytes l names is whole. p.sound c place bytes l names (back c place bytes l names is whole) whole;

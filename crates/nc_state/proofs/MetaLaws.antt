@@ -7,7 +7,7 @@ use Rattle.nc_meta.specs.Metas.{IsMeta}
 use Rattle.nc_cloud.specs.Contents.{Contents}
 use Rattle.nc_state.specs.Clouds.{Clouds, no_cloud}
 use Rattle.nc_state.specs.Versions.{meta_of}
-use Rattle.nc_state.specs.Holding.{Holds, HoldsMeta, meta_key}
+use Rattle.nc_state.specs.Holding.{Holds, HoldsIfAny, meta_key}
 use Rattle.nc_state.specs.Entries.{Entry, HasEntry, Rests}
 use Rattle.nc_state.specs.Entries.Entry.{Rest, Opened}
 use Rattle.nc_state.specs.Weighing.{after, settled, weigh}
@@ -58,7 +58,7 @@ module _ (n : ℕ) (wide : 4 ≤ n) (narrow : n ≤ 10) (name : List ℕ) (valid
   settled_entry (Rest x) is r =
       rests_on n wide narrow name valid_name m fits F G (WritesMissing n F name m) image (missing n F name m) D x is
       (λ c l out.
-      let here : Holds n F name c m = subst (HoldsMeta n F name c) is (r.held c l out) in
+      let here : Holds n F name c m = subst (HoldsIfAny n F name c) is (r.held c l out) in
       holds_same n F G name c (meta_of x) (λ k of_x. image_same image c (meta_key name k) l (λ new touch. touch.lacks here)) (r.held c l out)) r
   settled_entry (Opened x y) is o =
       between_weighs n G D name x y

@@ -12,7 +12,7 @@ use Rattle.nc_cloud.specs.Contents.{Contents}
 use Rattle.nc_state.specs.Clouds.{Clouds}
 use Rattle.nc_state.specs.Versions.{Version, IsValid, meta_of, version_generation}
 use Rattle.nc_state.specs.Holding.{HeldOutside, Holds, meta_key, meta_object}
-use Rattle.nc_state.specs.Right.{Names, PlacesStand}
+use Rattle.nc_state.specs.Right.{HasChunkAt, PlacesStand}
 use Rattle.nc_state.specs.Entries.{Between, Rests}
 use Rattle.nc_state.specs.Standing.{MetasSealed, WholeOrTorn}
 use Rattle.nc_state.specs.Rounds.{IsImage, Touching, WritesMeta}
@@ -54,7 +54,7 @@ module _ (n : ℕ) (wide : 4 ≤ n) (narrow : n ≤ 10) (name : List ℕ) (valid
       let at = (write c (meta_key name k) new touch).at in
       other k is cc)) (held c l out)
 
-  chunk_stays : (x : Version) (c : ℕ) (place : Key) → c < n → Names name x c place → G c place ≡ F c place
+  chunk_stays : (x : Version) (c : ℕ) (place : Key) → c < n → HasChunkAt name x c place → G c place ≡ F c place
   chunk_stays x c place l names = image_same image c place l (λ new touch. no_chunk name x c place name _ (write c place new touch).at names)
 
   pub places_stay : (D : Clouds) (x : Version) → PlacesStand n F D name x → PlacesStand n G D name x

@@ -12,7 +12,7 @@ use Rattle.nc_cloud.specs.Contents.{Contents}
 use Rattle.nc_state.specs.Clouds.{Clouds}
 use Rattle.nc_state.specs.Versions.{Version, meta_of}
 use Rattle.nc_state.specs.Holding.{HoldsVersion, meta_key}
-use Rattle.nc_state.specs.Right.{IsChunk, Names, PlacesStand}
+use Rattle.nc_state.specs.Right.{IsChunk, HasChunkAt, PlacesStand}
 use Rattle.nc_state.specs.Entries.{HasEntry, Rests}
 use Rattle.nc_state.specs.Rounds.{IsChunkOf, IsImage, LeavesAtRest}
 use Rattle.nc_state.specs.Rounds.LeavesAtRest.{free, right, erased}
@@ -28,8 +28,8 @@ chunk_name name (key.Chunk other slot row) is = is
 chunk_name name (key.Meta other slot) is = absurd is
 
 -- no version has a chunk under the key of a meta
-pub no_chunk : (name : List ℕ) (x : Version) (c : ℕ) (place : Key) (other : List ℕ) (slot : ℕ) → place ≡ key.Meta other slot → Names name x c place → ⊥
-no_chunk name x c place other slot e names = subst (λ (p : Key). Names name x c p) e names
+pub no_chunk : (name : List ℕ) (x : Version) (c : ℕ) (place : Key) (other : List ℕ) (slot : ℕ) → place ≡ key.Meta other slot → HasChunkAt name x c place → ⊥
+no_chunk name x c place other slot e names = subst (λ (p : Key). HasChunkAt name x c p) e names
 
 module _ (n : ℕ) (F G : Contents) (D : Clouds) (name : List ℕ) (x : Version) (image : IsImage n (LeavesAtRest n D name x) F G) where
   of_name : IsOfName (LeavesAtRest n D name x) name
@@ -68,12 +68,12 @@ module _ (n : ℕ) (F G : Contents) (D : Clouds) (name : List ℕ) (x : Version)
   still_held : (c : ℕ) → c < n → HoldsVersion n F name c x → HoldsVersion n G name c x
   still_held c l held = holds_same n F G name c (meta_of x) (λ k e. image_same image c (meta_key name k) l (λ new touch. not_its c k new e touch)) held
 
-  still_sound : (c : ℕ) (place : Key) (bytes : List ℕ) → Names name x c place → LeavesAtRest n D name x c place (Some bytes) → IsChunk n x c place bytes
+  still_sound : (c : ℕ) (place : Key) (bytes : List ℕ) → HasChunkAt name x c place → LeavesAtRest n D name x c place (Some bytes) → IsChunk n x c place bytes
   still_sound c place bytes names (free f) = absurd (f.free names)
   still_sound c place bytes names (right r) = let e : r.bytes ≡ bytes = (let w = r.writes in cc) in subst (IsChunk n x c place) e r.is_chunk
   still_sound c place bytes names (erased e) = absurd (no_chunk name x c place name e.slot e.at names)
 
-  not_touched : (c : ℕ) (place : Key) (new : Option (List ℕ)) → D c ≡ false → Names name x c place → LeavesAtRest n D name x c place new → ⊥
+  not_touched : (c : ℕ) (place : Key) (new : Option (List ℕ)) → D c ≡ false → HasChunkAt name x c place → LeavesAtRest n D name x c place new → ⊥
   not_touched c place new out names (free f) = f.free names
   not_touched c place new out names (right r) = true_not_false (D c) r.damaged out
   not_touched c place new out names (erased e) = no_chunk name x c place name e.slot e.at names

@@ -6,7 +6,7 @@ use Rattle.nc_meta.specs.Metas.{generation_of, spelling}
 use Rattle.nc_cloud.specs.Contents.{Contents}
 use Rattle.nc_state.specs.Clouds.{Clouds, count_of}
 use Rattle.nc_state.specs.Versions.{IsValid, Version, meta_of, version_generation}
-use Rattle.nc_state.specs.Holding.{HoldsMeta, IsTop, meta_key}
+use Rattle.nc_state.specs.Holding.{HoldsIfAny, IsTop, meta_key}
 use Rattle.nc_state.specs.Right.{PlacesStand}
 use Rattle.nc_state.proofs.Held.{object_sealed}
 use Rattle.nc_frame.specs.Frames.{Sealed}
@@ -20,7 +20,7 @@ use Rattle.nc_state.proofs.CloudSets.{some_outside}
 use Rattle.nc_state.proofs.Weighs.{open_settled}
 
 -- a cloud holds the version's meta: then the highest meta isn't below it
-not_below : (n : ℕ) (F : Contents) (name : List ℕ) (m : Meta) (x : Version) (o : Option Meta) → meta_of x ≡ o → IsTop n F name m → (c : ℕ) → c < n → HoldsMeta n F name c o → version_generation x ≤ generation_of m
+not_below : (n : ℕ) (F : Contents) (name : List ℕ) (m : Meta) (x : Version) (o : Option Meta) → meta_of x ≡ o → IsTop n F name m → (c : ℕ) → c < n → HoldsIfAny n F name c o → version_generation x ≤ generation_of m
 not_below n F name m x None is top c l held = let e : version_generation x ≡ 0 = ap (λ o. option_map_or generation_of o 0) is in omega arith
 not_below n F name m x (Some k) is top c l held =
     let e : version_generation x ≡ generation_of k = ap (λ o. option_map_or generation_of o 0) is in

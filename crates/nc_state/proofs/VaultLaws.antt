@@ -8,8 +8,8 @@ use Rattle.nc_cloud.specs.Contents.{Contents}
 use Rattle.nc_state.specs.Clouds.{Clouds, count_of, without_cloud}
 use Rattle.nc_state.specs.Versions.{Version, meta_of, version_generation}
 use Rattle.nc_state.specs.Versions.Version.{Never, Removed, Stored}
-use Rattle.nc_state.specs.Holding.{Holds, HoldsMeta, HoldsVersion, meta_key}
-use Rattle.nc_state.specs.Right.{IsRight, Names}
+use Rattle.nc_state.specs.Holding.{Holds, HoldsIfAny, HoldsVersion, meta_key}
+use Rattle.nc_state.specs.Right.{IsRight, HasChunkAt}
 use Rattle.nc_state.specs.Entries.{Entry, HasEntry}
 use Rattle.nc_state.specs.Entries.Entry.{Rest, Opened}
 use Rattle.nc_state.specs.Standing.{IsHealed}
@@ -24,7 +24,7 @@ never_of (Removed generation) is = absurd cc
 never_of (Stored m v) is = absurd cc
 
 -- what a cloud that holds no meta of the name holds of a version is nothing
-no_meta_held : (n : ℕ) (F : Contents) (name : List ℕ) (c : ℕ) (o : Option Meta) → ((m : Meta) → Holds n F name c m → ⊥) → HoldsMeta n F name c o → o ≡ None
+no_meta_held : (n : ℕ) (F : Contents) (name : List ℕ) (c : ℕ) (o : Option Meta) → ((m : Meta) → Holds n F name c m → ⊥) → HoldsIfAny n F name c o → o ≡ None
 no_meta_held n F name c None none h = refl
 no_meta_held n F name c (Some m) none h = absurd (none m h)
 
@@ -78,7 +78,7 @@ healed_entry n i F D name (Rest x) healed r = record {
     sound = r.places.sound;
     right = λ c place l out names.
         elim (eqb_tells c i) [
-          | inl here ↦ subst (λ (k : ℕ). IsRight n F x k place) (sym here.1) (healed.1 place (subst (λ (k : ℕ). Names name x k place) here.1 names))
+          | inl here ↦ subst (λ (k : ℕ). IsRight n F x k place) (sym here.1) (healed.1 place (subst (λ (k : ℕ). HasChunkAt name x k place) here.1 names))
           | inr other ↦ r.places.right c place l (outside_by (D c) (c == i) out other.0) names
         ];
   };

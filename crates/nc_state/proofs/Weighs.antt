@@ -5,7 +5,7 @@ use Rattle.nc_meta.specs.Metas.{generation_of}
 use Rattle.nc_cloud.specs.Contents.{Contents}
 use Rattle.nc_state.specs.Clouds.{Clouds}
 use Rattle.nc_state.specs.Versions.{Version, version_generation, IsValid}
-use Rattle.nc_state.specs.Holding.{AllHold, HoldsMeta, HoldsVersion, NoneAbove, holds}
+use Rattle.nc_state.specs.Holding.{AllHold, HoldsIfAny, HoldsVersion, NoneAbove, holds}
 use Rattle.nc_state.specs.Entries.{Between, IsOpen, Entry, HasEntry}
 use Rattle.nc_state.specs.Entries.Entry.{Rest, Opened}
 use Rattle.nc_state.specs.Weighing.{after, all_outside_hold, settled, some_holds, weigh}
@@ -25,7 +25,7 @@ weigh_choice n G E name x y false all none is b =
     let below : NoneAbove n G name (version_generation x) = λ c m l h.
     let most : generation_of m ≤ version_generation y = b.none_above c m l h in
     let differs : generation_of m ≡ version_generation y → ⊥ = λ e.
-    nobody c l (subst (HoldsMeta n G name c) (sym (b.one_new c m l h e)) h) in
+    nobody c l (subst (HoldsIfAny n G name c) (sym (b.one_new c m l h e)) h) in
     omega (arith, b.next) in
     record { none_above = below; one_meta = b.one_old; held = b.held; valid = b.valid_old; places = b.places_old }
 weigh_choice n G E name x y true true some all b = record {

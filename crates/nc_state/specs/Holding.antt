@@ -33,13 +33,13 @@ pub record HoldsSealed (n : ℕ) (F : Contents) (name : List ℕ) (c : ℕ) (m :
   pub spells : Spells n payload m
 
 -- cloud c holds this meta, where there is one
-abbrev pub HoldsMeta : ℕ → Contents → List ℕ → ℕ → Option Meta → Type 0
-HoldsMeta n F name c None = Unit {0}
-HoldsMeta n F name c (Some m) = Holds n F name c m
+abbrev pub HoldsIfAny : ℕ → Contents → List ℕ → ℕ → Option Meta → Type 0
+HoldsIfAny n F name c None = Unit {0}
+HoldsIfAny n F name c (Some m) = Holds n F name c m
 
 -- cloud c holds the version's meta, where it has one
 abbrev pub HoldsVersion : ℕ → Contents → List ℕ → ℕ → Version → Type 0
-HoldsVersion n F name c x = HoldsMeta n F name c (meta_of x)
+HoldsVersion n F name c x = HoldsIfAny n F name c (meta_of x)
 
 -- all clouds do
 abbrev pub AllHold : ℕ → Contents → List ℕ → Version → Type 0

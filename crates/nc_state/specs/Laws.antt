@@ -19,7 +19,7 @@ use Rattle.nc_state.specs.Clouds.{Clouds, count_of, no_cloud, with_cloud, withou
 use Rattle.nc_state.specs.Versions.Version.{Never, Removed, Stored}
 use Rattle.nc_state.specs.Versions.{Version, IsValid, meta_of, version_generation}
 use Rattle.nc_state.specs.Holding.{AllHold, Holds, HoldsSealed, IsTop, NoneAbove}
-use Rattle.nc_state.specs.Right.{Names, PlacesStand, RightOn, free_slot_of}
+use Rattle.nc_state.specs.Right.{HasChunkAt, PlacesStand, RightOn, free_slot_of}
 use Rattle.nc_state.specs.Entries.{Entry, HasEntry}
 use Rattle.nc_state.specs.Entries.Entry.{Rest}
 use Rattle.nc_state.specs.Weighing.{after, settled, weigh}
@@ -123,7 +123,7 @@ WrittenRests = (n : ℕ) (F G : Contents) (D : Clouds) (name : List ℕ) (e : En
 -- a version whose chunks on a cloud are in the free slot has no place there that the one before has
 abbrev pub FreeSlotIsFree : Type 0
 FreeSlotIsFree = (name : List ℕ) (x : Version) (m : Live) (v : List ℕ) (c : ℕ) (place : Key)
-    → slice_index m.slots c ≡ free_slot_of x c → Names name (Stored m v) c place → Names name x c place → ⊥
+    → slice_index m.slots c ≡ free_slot_of x c → HasChunkAt name (Stored m v) c place → HasChunkAt name x c place → ⊥
 
 -- the places of a version stand once they are right on all clouds
 abbrev pub RightPlacesStand : Type 0

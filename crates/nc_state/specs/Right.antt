@@ -15,11 +15,11 @@ use Rattle.nc_state.specs.Versions.{Version, meta_of}
 use Rattle.nc_state.specs.Versions.Version.{Never, Removed, Stored}
 
 -- the version has a chunk of its own under this key of cloud c: both rows of the slot that its meta names
-abbrev pub Names : List ℕ → Version → ℕ → Key → Type 0
-Names name x c (key.Meta other slot) = ⊥
-Names name (Stored m v) c (key.Chunk other slot row) = (other ≡ name) × (slot ≡ slice_index m.slots c) × (row < 2)
-Names name Never c (key.Chunk other slot row) = ⊥
-Names name (Removed generation) c (key.Chunk other slot row) = ⊥
+abbrev pub HasChunkAt : List ℕ → Version → ℕ → Key → Type 0
+HasChunkAt name x c (key.Meta other slot) = ⊥
+HasChunkAt name (Stored m v) c (key.Chunk other slot row) = (other ≡ name) × (slot ≡ slice_index m.slots c) × (row < 2)
+HasChunkAt name Never c (key.Chunk other slot row) = ⊥
+HasChunkAt name (Removed generation) c (key.Chunk other slot row) = ⊥
 
 -- the payload of that chunk
 abbrev pub payload_at : ℕ → Version → ℕ → Key → List ℕ
@@ -40,12 +40,12 @@ pub record IsRight (n : ℕ) (F : Contents) (x : Version) (c : ℕ) (place : Key
 
 -- all chunks of the version on cloud c are right
 abbrev pub RightOn : ℕ → Contents → List ℕ → Version → ℕ → Type 0
-RightOn n F name x c = (place : Key) → Names name x c place → IsRight n F x c place
+RightOn n F name x c = (place : Key) → HasChunkAt name x c place → IsRight n F x c place
 
 -- Each place that the version names is right, absent or broken, and right on every cloud outside D.
 pub record PlacesStand (n : ℕ) (F : Contents) (D : Clouds) (name : List ℕ) (x : Version) : Type 0 where
-  pub sound : (c : ℕ) (place : Key) (bytes : List ℕ) → c < n → Names name x c place → F c place ≡ Some bytes → Whole bytes → IsChunk n x c place bytes
-  pub right : (c : ℕ) (place : Key) → c < n → D c ≡ false → Names name x c place → IsRight n F x c place
+  pub sound : (c : ℕ) (place : Key) (bytes : List ℕ) → c < n → HasChunkAt name x c place → F c place ≡ Some bytes → Whole bytes → IsChunk n x c place bytes
+  pub right : (c : ℕ) (place : Key) → c < n → D c ≡ false → HasChunkAt name x c place → IsRight n F x c place
 
 -- the slot on cloud c that new chunks are written to: the one that the meta doesn't name
 abbrev pub free_slot : Meta → ℕ → ℕ

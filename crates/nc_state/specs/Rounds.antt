@@ -10,7 +10,7 @@ use Rattle.nc_cloud.specs.Images.{write_at}
 use Rattle.nc_state.specs.Clouds.{Clouds}
 use Rattle.nc_state.specs.Versions.{Version, meta_of}
 use Rattle.nc_state.specs.Holding.{Holds, meta_key, meta_object}
-use Rattle.nc_state.specs.Right.{IsChunk, Names}
+use Rattle.nc_state.specs.Right.{IsChunk, HasChunkAt}
 
 -- What a round touches: `touches c place new` says that it may, under this key of cloud c, with what is to be new there (None
 -- where it erases).
@@ -53,12 +53,12 @@ pub record WritesMissing (n : ℕ) (F : Contents) (name : List ℕ) (m : Meta) (
 -- chunks of the name that the version x doesn't name: whole objects, or nothing
 pub record WritesFree (name : List ℕ) (x : Version) (c : ℕ) (place : Key) (new : Option (List ℕ)) : Type 0 where
   pub at : IsChunkOf name place
-  pub free : Names name x c place → ⊥
+  pub free : HasChunkAt name x c place → ⊥
   pub writes : IfSome new Whole
 
 -- chunks that x names, on damaged clouds, with what is right there
 pub record WritesRight (n : ℕ) (D : Clouds) (name : List ℕ) (x : Version) (c : ℕ) (place : Key) (new : Option (List ℕ)) : Type 0 where
-  pub at : Names name x c place
+  pub at : HasChunkAt name x c place
   pub damaged : D c ≡ true
   pub bytes : List ℕ
   pub writes : new ≡ Some bytes
