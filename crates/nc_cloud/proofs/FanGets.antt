@@ -9,8 +9,7 @@ use Rattle.nc_cloud.specs.declared.seats.Seat.{Seat}
 use Rattle.nc_cloud.specs.Contents.{Store, Rose, Grows}
 use Rattle.nc_cloud.specs.Fleet.{asked, Answers, Shows, chunks_got, got_count, is_bytes, is_chunk, tally}
 use Rattle.nc_cloud.specs.Seats.{AllServed, Serves, DidGet, ask_at, clouds_in, collected_ask, contents_at, count_at}
-use Rattle.nc_cloud.proofs.RecordLaws.{got_none}
-use Rattle.nc_cloud.proofs.Fans.{Served, Stands, entry_in, entry_back, none_entry, tally_some, tally_none, seat_value, idle, busy, each_cloud}
+use Rattle.nc_cloud.proofs.Fans.{got_none, Served, Stands, entry_in, entry_back, none_entry, tally_some, tally_none, seat_value, idle, busy, each_cloud}
 
 module _ {C : Type 0} (tells : Type 0) (held : C → Store) (faults : C → ℕ) (exactly : Type 0) (gets : C → ℕ) (asks left : List Ask) (old mid new : List (Seat C)) (below : All (λ a. a.cloud < length old) asks) (once : AllPairs (λ a b. a.cloud ≢ b.cloud) asks) (served : AllServed (λ c. Serves (DidGet tells held faults exactly gets) (ask_at asks c)) old mid) (answers : left ≡ map (collected_ask mid) asks) (clouds : clouds_in new ≡ clouds_in mid) where
   abbrev Did : ℕ → Ask → Type 0

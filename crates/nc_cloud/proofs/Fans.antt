@@ -6,7 +6,7 @@ use Rattle.std.proofs.lemmas.Bool.{cases_lt}
 use Rattle.std.proofs.lemmas.Bool.Decides.{eqb_tells}
 use Rattle.std.proofs.lemmas.List.{length-map, get_or-map}
 use Rattle.nc_cloud.specs.declared.seats.Seat.{Seat}
-use Rattle.nc_cloud.specs.Fleet.{tally}
+use Rattle.nc_cloud.specs.Fleet.{tally, got_count}
 use Rattle.nc_cloud.specs.Seats.{clouds_in, AllServed, Serves}
 
 pub some_of : {A : Type 0} (xs : List A) → 0 < length xs → A
@@ -150,3 +150,7 @@ module _ {C X : Type 0} (cloud : X → ℕ) (did : X → Seat C → Seat C → T
 
     pub each_cloud : (c : ℕ) → P c
     each_cloud c = by_entry c (entry cloud c xs) refl
+
+-- a count after nothing
+pub got_none : (before : ℕ) → before ≡ got_count before 0
+got_none before = omega arith

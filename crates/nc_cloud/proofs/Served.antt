@@ -2,9 +2,7 @@
 use Rattle.std.proofs.Common.{◌≡◌, ℕ, suc, ◌+◌, ◌<◌, List, [], ◌∷◌, ◌++◌, map, length, get_or, take, drop, sym, ap, ◌∙◌, arith, append_assoc, drop-cons}
 use Rattle.std.proofs.Math.ListN.{set}
 use Rattle.std.proofs.Math.Seq.{set-append_seam, get_or-append_seam}
-use Rattle.std.proofs.lemmas.List.{length-map, length-take-le, map_more, map-append, take-append-drop}
-use Rattle.nc_cloud.specs.Record.{numbered}
-use Rattle.nc_cloud.proofs.Numbered.{length-numbered, numbered_more, map-numbered}
+use Rattle.std.proofs.lemmas.List.{length-map, length-take-le, map_more}
 
 -- the entries before i stand in front, the others as they were
 module _ {A : Type 0} (front old : List A) (i : ℕ) (d : A) (l : i < length old) (is : length front ≡ i) where
@@ -14,7 +12,7 @@ module _ {A : Type 0} (front old : List A) (i : ℕ) (d : A) (l : i < length old
   pub get_front : get_or (front ++ drop i old) i d ≡ get_or old i d
   get_front = ap (λ ys. get_or (front ++ ys) i d) split ∙ ap (λ k. get_or (front ++ get_or old i d ∷ drop (i + 1) old) k d) (sym is) ∙ get_or-append_seam front (get_or old i d) (drop (i + 1) old) d
 
-  set_front : (y : A) → set (front ++ drop i old) i y ≡ (front ++ y ∷ []) ++ drop (i + 1) old
+  pub set_front : (y : A) → set (front ++ drop i old) i y ≡ (front ++ y ∷ []) ++ drop (i + 1) old
   set_front y =
       ap (λ ys. set (front ++ ys) i y) split
       ∙ ap (λ k. set (front ++ get_or old i d ∷ drop (i + 1) old) k y) (sym is)
@@ -22,18 +20,8 @@ module _ {A : Type 0} (front old : List A) (i : ℕ) (d : A) (l : i < length old
       ∙ sym (append_assoc front (y ∷ []) (drop (i + 1) old))
 
 module _ {A : Type 0} (old xs : List A) (i : ℕ) (d y : A) (l : i < length old) where
-  shorter : length (take i old) ≡ i
+  pub shorter : length (take i old) ≡ i
   shorter = length-take-le i old (omega arith)
-
-  -- each by its number
-  pub numbered_set : (g : ℕ → A → A) (n : ℕ) → xs ≡ numbered g n (take i old) ++ drop i old → y ≡ g (n + i + 1) (get_or xs i d) → set xs i y ≡ numbered g n (take (i + 1) old) ++ drop (i + 1) old
-  numbered_set g n e is =
-      let front : List A = numbered g n (take i old) in
-      let long : length front ≡ i = length-numbered g n (take i old) ∙ shorter in
-      let here : get_or xs i d ≡ get_or old i d = ap (λ ys. get_or ys i d) e ∙ get_front front old i d l long in
-      ap (λ ys. set ys i y) e ∙ set_front front old i d l long y
-      ∙ ap (λ z. (front ++ z ∷ []) ++ drop (i + 1) old) (is ∙ ap (g (n + i + 1)) here)
-      ∙ ap (λ ys. ys ++ drop (i + 1) old) (sym (numbered_more g n old i d l))
 
   -- each in the same way
   pub map_set : (f : A → A) → xs ≡ map f (take i old) ++ drop i old → y ≡ f (get_or xs i d) → set xs i y ≡ map f (take (i + 1) old) ++ drop (i + 1) old
@@ -44,12 +32,3 @@ module _ {A : Type 0} (old xs : List A) (i : ℕ) (d y : A) (l : i < length old)
       ap (λ ys. set ys i y) e ∙ set_front front old i d l long y
       ∙ ap (λ z. (front ++ z ∷ []) ++ drop (i + 1) old) (is ∙ ap f here)
       ∙ ap (λ ys. ys ++ drop (i + 1) old) (sym (map_more f old i d l))
-
--- what no answer changes
-pub map_kept : {A C : Type 0} (p : A → C) (g : ℕ → A → A) → ((k : ℕ) (x : A) → p (g k x) ≡ p x) → (n i : ℕ) (old xs : List A) → xs ≡ numbered g n (take i old) ++ drop i old → map p xs ≡ map p old
-map_kept p g same n i old xs e =
-    ap (map p) e
-    ∙ map-append p (numbered g n (take i old)) (drop i old)
-    ∙ ap (λ ys. ys ++ map p (drop i old)) (map-numbered g p p same n (take i old))
-    ∙ sym (map-append p (take i old) (drop i old))
-    ∙ ap (map p) (take-append-drop i old)

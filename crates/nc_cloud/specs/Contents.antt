@@ -1,6 +1,8 @@
 -- What clouds hold, and what a round leaves.
-use Rattle.std.specs.Prelude.{ℕ, ◌≡◌, ◌≢◌, ◌+◌, ◌-◌, ◌^◌, ◌≤◌, Bool, true, false, Option, None, Some, List, [], ◌∷◌, min, nat_eq, if◌then◌else◌}
+use Rattle.std.specs.Prelude.{ℕ, ◌≡◌, ◌≢◌, ◌+◌, ◌-◌, ◌^◌, ◌≤◌, ◌&&◌, Bool, true, false, Option, None, Some, List, [], ◌∷◌, min, nat_eq, if◌then◌else◌}
+use Rattle.std.specs.Str.{bytes_eq}
 use Rattle.nc_name.specs.declared.key.Key.{Key}
+use Rattle.nc_name.specs.declared.key.Key.TheVariants.{Meta, Chunk}
 use Rattle.nc_frame.specs.Frames.{AreTorn}
 
 -- a count has risen, or stands at its end
@@ -18,6 +20,17 @@ Store = Key → Option (List ℕ)
 -- what each cloud holds under each key
 abbrev pub Contents : Type 0
 Contents = ℕ → Store
+
+-- clouds without objects
+abbrev pub nothing : Contents
+nothing = λ c key. None
+
+-- two keys are the same
+abbrev pub key_eq : Key → Key → Bool
+key_eq (Meta name slot) (Meta other s) = bytes_eq name other && nat_eq slot s
+key_eq (Chunk name slot row) (Chunk other s r) = bytes_eq name other && (nat_eq slot s && nat_eq row r)
+key_eq (Meta name slot) (Chunk other s r) = false
+key_eq (Chunk name slot row) (Meta other s) = false
 
 abbrev pub IsTorn : Option (List ℕ) → Type 0
 IsTorn None = ⊥

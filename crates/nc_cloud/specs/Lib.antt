@@ -1,12 +1,8 @@
 pub mod Cloud
 pub mod Contents
+pub mod Deciding
 pub mod Fan
 pub mod Fleet
-pub mod MemCloud
-pub mod Memory
-pub mod Record
 pub mod Images
 pub mod Rounds
 pub mod Seats
-pub mod Deciding
-pub mod Store

@@ -72,7 +72,7 @@ impl KeyList {
     }
 
     /// A key more at a place. At `Memory` the list is as it was.
-    pub(crate) fn insert(&mut self, at: usize, key: Key) -> Result<(), Memory>
+    pub fn insert(&mut self, at: usize, key: Key) -> Result<(), Memory>
         requires { at ≤ length self.old }
         ensures ok { OnOk result (self.new ≡ insert self.old at key) }
         ensures err { OnErr result (self.new ≡ self.old) }

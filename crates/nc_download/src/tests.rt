@@ -1,11 +1,11 @@
 ghost use Rattle.std.specs.Prelude.{◌≡◌, ◌≤◌, ◌<◌, ◌+◌, ◌*◌, IfOk, All, AllPairs, length};
-ghost use Rattle.nc_cloud.specs.Memory.{width_of};
+ghost use Rattle.nc_memory.specs.Memory.{width_of};
 ghost use Rattle.nc_code.specs.Codes.{IsMds};
 ghost use Rattle.nc_mix.specs.Decoding.{IsBefore, IsLong};
 ghost use Rattle.nc_native.specs.Native.{chunk_size};
 
 use crate::{Bad, How, ReadFault, Why, read_file};
-use nc_cloud::MemFleet;
+use nc_memory::MemFleet;
 use nc_code::{Code, striped};
 use nc_frame::seal;
 use nc_mds::{Verdict, check};

@@ -1,8 +1,8 @@
 ghost use Rattle.std.specs.Prelude.{◌≡◌, ◌<◌, IfOk};
-ghost use Rattle.nc_cloud.specs.Memory.{width_of};
+ghost use Rattle.nc_memory.specs.Memory.{width_of};
 
 use crate::{Conflict, Misplaced, Place, look};
-use nc_cloud::{MemFleet, Torn};
+use nc_memory::{MemFleet, Torn};
 use nc_frame::seal;
 use nc_name::{Key, Memory, Name};
 use std::alloc::Global;

@@ -5,9 +5,8 @@ use Rattle.std.proofs.lemmas.Bool.Decides.{Decides-and, Decides-eqb, Decides-lik
 use Rattle.std.proofs.lemmas.Slice.Eq.{bytes_eq-Decides}
 use Rattle.nc_name.specs.declared.key.Key.{Key}
 use Rattle.nc_name.specs.declared.key.Key.TheVariants.{Meta, Chunk}
-use Rattle.nc_cloud.specs.Contents.{ChangesAt, Contents, Fate, Write, Store}
+use Rattle.nc_cloud.specs.Contents.{ChangesAt, Contents, Fate, Write, Store, key_eq}
 use Rattle.nc_cloud.specs.Images.{Image, ImageCloud, write_at}
-use Rattle.nc_cloud.specs.Record.{key_eq}
 use Rattle.nc_state.specs.Rounds.{IsImage, Left, Touching}
 use Rattle.nc_state.specs.Rounds.Left.{untouched, touched}
 use Rattle.nc_state.specs.Laws.{RoundIsImage}

@@ -12,8 +12,7 @@ use Rattle.nc_name.specs.Names.{IsName}
 use Rattle.nc_frame.specs.Frames.{Sealed}
 use Rattle.nc_meta.specs.declared.meta.Meta.{Meta}
 use Rattle.nc_meta.specs.Metas.{IsLive, generation_of}
-use Rattle.nc_cloud.specs.Contents.{Contents, Write}
-use Rattle.nc_cloud.specs.Record.{nothing}
+use Rattle.nc_cloud.specs.Contents.{Contents, Write, nothing}
 use Rattle.nc_cloud.specs.Images.{Image}
 use Rattle.nc_state.specs.Clouds.{Clouds, count_of, no_cloud, with_cloud, without_cloud}
 use Rattle.nc_state.specs.Versions.Version.{Never, Removed, Stored}

@@ -1,12 +1,13 @@
 //! What the tests share: runs over clouds in memory, and clouds that lack something.
 ghost use Rattle.std.specs.Prelude.{◌≡◌, ◌<◌, IfOk};
 ghost use Rattle.nc_name.specs.Keys.{Slots};
-ghost use Rattle.nc_cloud.specs.Memory.{width_of};
+ghost use Rattle.nc_memory.specs.Memory.{width_of};
 
 use crate::memory::{MemSink, MemSource};
 use crate::run::run;
 use crate::status::{Fault, Status};
-use nc_cloud::{Fleet, MemFleet};
+use nc_cloud::Fleet;
+use nc_memory::MemFleet;
 use nc_name::{Blob, Key, Memory, Name};
 use std::alloc::Global;
 use std::test::Fail;

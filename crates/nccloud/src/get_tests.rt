@@ -1,6 +1,6 @@
 //! What a get gives, with clouds lost, broken or failing.
 ghost use Rattle.std.specs.Prelude.{◌≡◌, ◌<◌, IfOk};
-ghost use Rattle.nc_cloud.specs.Memory.{width_of};
+ghost use Rattle.nc_memory.specs.Memory.{width_of};
 
 use crate::fixtures::{
     chunk, copy_cloud, copy_cut, copy_object, failing_cloud, get_into, gives, meta, misplaced,
@@ -8,7 +8,7 @@ use crate::fixtures::{
 };
 use crate::memory::MemSink;
 use crate::status::{Fault, Status};
-use nc_cloud::{MemFleet, Torn};
+use nc_memory::{MemFleet, Torn};
 use nc_download::{Bad, How, Why};
 use nc_name::{Memory, Name};
 use std::alloc::Global;

@@ -1,14 +1,14 @@
 //! Puts and gets over clouds on which objects were placed: what an earlier put left, what later commands may leave, and
 //! what none does.
 ghost use Rattle.std.specs.Prelude.{◌≡◌, ◌<◌, IfOk};
-ghost use Rattle.nc_cloud.specs.Memory.{width_of};
+ghost use Rattle.nc_memory.specs.Memory.{width_of};
 
 use crate::fixtures::{
     chunk, copy_object, get_into, gives, held, meta, misplaced, put_bytes, stored, without,
 };
 use crate::memory::MemSink;
 use crate::status::{Fault, Status};
-use nc_cloud::MemFleet;
+use nc_memory::MemFleet;
 use nc_frame::seal;
 use nc_name::{Blob, Key, Memory, Name};
 use std::alloc::Global;

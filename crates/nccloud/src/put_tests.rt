@@ -1,6 +1,6 @@
 //! What a put leaves on the clouds, and when it refuses.
 ghost use Rattle.std.specs.Prelude.{◌≡◌, ◌≤◌};
-ghost use Rattle.nc_cloud.specs.Memory.{width_of};
+ghost use Rattle.nc_memory.specs.Memory.{width_of};
 
 use crate::fixtures::{
     chunk, copy_object, failing_cloud, gives, held, len_of, meta, misplaced, mixed, put_bytes,
@@ -10,7 +10,7 @@ use crate::memory::{MemSink, MemSource};
 use crate::put::put;
 use crate::setting::Setting;
 use crate::status::{Fault, Status};
-use nc_cloud::{MemFleet, Torn};
+use nc_memory::{MemFleet, Torn};
 use nc_frame::{Seen, open};
 use nc_meta::Meta;
 use nc_name::{Blob, Key, Memory, Name};

@@ -4,7 +4,7 @@ use crate::fixtures::{held, run_words};
 use crate::memory::{MemSink, MemSource};
 use crate::source::Source;
 use crate::status::{Fault, Status};
-use nc_cloud::MemFleet;
+use nc_memory::MemFleet;
 use nc_download::ShortList;
 use nc_name::{Blob, Name, NameFault};
 use std::test::Fail;

@@ -1,5 +1,5 @@
 use Rattle.std.proofs.Common.{◌≡◌}
-use Rattle.nc_cloud.specs.Memory.{width_of}
+use Rattle.nc_memory.specs.Memory.{width_of}
 use Rattle.nccloud.proofs.planted_tests.rotated.Given as goal
 
 abbrev pub invariant-loop-place : goal.invariant-loop-place

@@ -1,6 +1,0 @@
-use Rattle.std.proofs.Common.{◌≡◌, take}
-use Rattle.nc_cloud.specs.Record.{steps_of}
-use Rattle.nc_cloud.proofs.serving.plan_puts.Given as goal
-
-abbrev pub invariant-loop-i : goal.invariant-loop-i
-invariant-loop-i l = l.steps ≡ steps_of l.refusals l.entries (take l.i l.jobs)

@@ -1,0 +1,6 @@
+use Rattle.std.proofs.Common.{◌≡◌, ◌++◌, take, drop, map}
+use Rattle.nc_memory.specs.Record.{starved_job}
+use Rattle.nc_memory.proofs.serving.starve_jobs.Given as goal
+
+abbrev pub invariant-loop-job : goal.invariant-loop-job
+invariant-loop-job l = l.jobs ≡ map starved_job (take l.job-index l.initial.jobs) ++ drop l.job-index l.initial.jobs

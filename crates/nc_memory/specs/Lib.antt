@@ -1,0 +1,4 @@
+pub mod MemCloud
+pub mod Memory
+pub mod Record
+pub mod Store

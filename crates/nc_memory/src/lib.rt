@@ -1,0 +1,17 @@
+//! Clouds in memory, which fail where they were told to.
+#![tactic(auto)]
+
+#[cfg(test)]
+mod cloud_tests;
+mod mem_cloud;
+mod memory;
+mod record;
+mod serving;
+mod sorting;
+mod store;
+#[cfg(test)]
+mod tests;
+
+pub use mem_cloud::MemCloud;
+pub use memory::MemFleet;
+pub use record::Torn;

@@ -1,0 +1,234 @@
+ghost use Rattle.std.specs.Prelude.{◌≡◌, ◌≢◌, ◌<◌, ◌++◌, ◌∷◌, [], ℕ, None, Some, All, AllPairs, map, option_map, IfOk, OnOk, OnErr};
+ghost use Rattle.nc_name.specs.declared.key.Key.{Key};
+ghost use Rattle.nc_frame.specs.Frames.{Whole};
+ghost use Rattle.nc_cloud.specs.Contents.{Rose, Leaves, Grows, nothing};
+ghost use Rattle.nc_cloud.specs.Fleet.{asked, chunks_got, got_count, writes, touches, Answers};
+ghost use Rattle.nc_cloud.specs.declared.fleet.Answer.TheVariants.{Waiting as Unanswered, Failed as NoAnswer};
+ghost use Rattle.nc_cloud.specs.declared.fleet.Done.TheVariants.{Waiting, Failed};
+ghost use Rattle.nc_memory.specs.Memory.{chunk_gets_of, contents_of, entries_of, faults_of, gets_event, log_of, puts_event, refusals_of, width_of, Reads, ServesGets, ServesPuts, Writes, Unchanged};
+
+use crate::record::{Event, LookList, Refusal, StepList, Torn, gifts_in, object_in};
+use crate::serving::{answer_all, looks_of, mark, plan_puts, starve_asks, starve_jobs};
+use nc_cloud::{Ask, Fleet, Job};
+use nc_name::{Blob, Key, Memory};
+use std::alloc::Global;
+
+/// Clouds in memory, which fail where they were told to. It keeps the record of all its rounds and nothing else
+/// of them: what its clouds hold and how often they failed follows from the record.
+#[derive(Drop)]
+pub struct MemFleet {
+    alloc: Global,
+    width: usize,
+    log: Vec<Event>,
+    refusals: Vec<Refusal>,
+    entries: u64,
+}
+
+fn push_event(log: &mut Vec<Event>, event: Event) -> Result<(), Memory>
+    ensures ok { OnOk result (log.new.items ≡ log.old.items ++ event ∷ []) }
+    ensures err { OnErr result (log.new.items ≡ log.old.items) }
+{
+    match log.push(event) {
+        Ok(()) => Ok(()),
+        Err(_) => Err(Memory),
+    }
+}
+
+/// Records the gets of a round, where there are any.
+fn record_gets(log: &mut Vec<Event>, looks: LookList) -> Result<(), Memory>
+    ensures ok { OnOk result (log.new.items ≡ log.old.items ++ gets_event looks) }
+    ensures err { OnErr result (log.new.items ≡ log.old.items) }
+{
+    if looks.is_empty() {
+        return Ok(());
+    }
+    push_event(log, Event::Gets(looks))
+}
+
+/// Records the puts of a round, where there are any.
+fn record_puts(log: &mut Vec<Event>, steps: StepList) -> Result<(), Memory>
+    ensures ok { OnOk result (log.new.items ≡ log.old.items ++ puts_event steps) }
+    ensures err { OnErr result (log.new.items ≡ log.old.items) }
+{
+    if steps.is_empty() {
+        return Ok(());
+    }
+    push_event(log, Event::Puts(steps))
+}
+
+fn push_refusal(refusals: &mut Vec<Refusal>, refusal: Refusal) -> Result<(), Memory>
+    ensures ok { OnOk result (refusals.new.items ≡ refusals.old.items ++ refusal ∷ []) }
+    ensures err { OnErr result (refusals.new.items ≡ refusals.old.items) }
+{
+    match refusals.push(refusal) {
+        Ok(()) => Ok(()),
+        Err(_) => Err(Memory),
+    }
+}
+
+impl MemFleet {
+    /// A fleet of so many clouds without objects, of which none was told to fail.
+    pub fn new(alloc: Global, width: usize) -> Result<MemFleet, Memory>
+        ensures empty { IfOk result (λ fleet. log_of fleet ≡ []) }
+        ensures refusals { IfOk result (λ fleet. refusals_of fleet ≡ []) }
+        ensures entries { IfOk result (λ fleet. entries_of fleet ≡ 0) }
+        ensures width { IfOk result (λ fleet. width_of fleet ≡ width) }
+        ensures held { IfOk result (λ fleet. contents_of fleet ≡ nothing) }
+        ensures faults { IfOk result (λ fleet. (c : ℕ) → faults_of fleet c ≡ 0) }
+    {
+        Ok(MemFleet {
+            alloc,
+            width,
+            log: Vec::new(alloc),
+            refusals: Vec::new(alloc),
+            entries: 0,
+        })
+    }
+
+    /// Lets the nth entry fail, counted from 1 over all rounds in the order of their entries. What was given first
+    /// for a number counts. At `Memory` nothing changed.
+    pub fn refuse(&mut self, nth: u64, outcome: Torn) -> Result<(), Memory>
+        ensures ok { OnOk result (refusals_of self.new ≡ refusals_of self.old ++ record { nth = nth; outcome = outcome } ∷ []) }
+        ensures err { OnErr result (refusals_of self.new ≡ refusals_of self.old) }
+        ensures log { log_of self.new ≡ log_of self.old }
+        ensures held { contents_of self.new ≡ contents_of self.old }
+        ensures faults { faults_of self.new ≡ faults_of self.old }
+        ensures entries { entries_of self.new ≡ entries_of self.old }
+        ensures width { width_of self.new ≡ width_of self.old }
+    {
+        push_refusal(&mut self.refusals, Refusal { nth, outcome })
+    }
+
+    /// What a cloud holds under a key.
+    pub fn object(&self, cloud: u8, key: &Key) -> Option<&[u8]>
+        ensures { option_map (λ bytes. bytes.now) result ≡ contents_of self.now cloud key.now }
+    {
+        object_in(&self.log, cloud, key)
+    }
+
+    /// How many gets of chunks of a cloud have given bytes.
+    pub fn gets(&self, cloud: u8) -> u64
+        ensures { result ≡ chunk_gets_of self.now cloud }
+    {
+        gifts_in(&self.log, cloud)
+    }
+
+    /// Places an object on a cloud without a round. It serves tests. At `Memory` nothing changed.
+    pub fn plant(&mut self, cloud: u8, key: &Key, bytes: &[u8]) -> Result<(), Memory>
+        requires { cloud < width_of self.old }
+        ensures ok { OnOk result (log_of self.new ≡ log_of self.old ++ Event.Planted cloud key.now bytes.now ∷ []) }
+        ensures err { OnErr result (log_of self.new ≡ log_of self.old) }
+        ensures there { OnOk result (contents_of self.new cloud key.now ≡ Some bytes.now) }
+        ensures others { OnOk result ((c : ℕ) (q : Key) → (c ≡ cloud → q ≢ key.now) → contents_of self.new c q ≡ contents_of self.old c q) }
+        ensures faults { faults_of self.new ≡ faults_of self.old }
+        ensures gets { chunk_gets_of self.new ≡ chunk_gets_of self.old }
+        ensures refusals { refusals_of self.new ≡ refusals_of self.old }
+        ensures entries { entries_of self.new ≡ entries_of self.old }
+        ensures width { width_of self.new ≡ width_of self.old }
+    {
+        let bytes = Blob::from_slice(self.alloc, bytes)?;
+        push_event(
+            &mut self.log,
+            Event::Planted {
+                cloud,
+                key: *key,
+                bytes,
+            },
+        )?;
+        Ok(())
+    }
+
+    /// Answers the gets of a round and records them.
+    fn give(&mut self, asks: &mut [Ask]) -> Result<(), Memory>
+        ensures asked { map asked asks.new ≡ map asked asks.old }
+        ensures ok { OnOk result (Reads self.old self.new asks.old asks.new) }
+        ensures err { OnErr result (Unchanged self.old self.new) }
+    {
+        answer_all(self.alloc, &self.log, &self.refusals, self.entries, asks)?;
+        let looks = looks_of(self.alloc, asks)?;
+        record_gets(&mut self.log, looks)?;
+        self.entries = self.entries.saturating_add(asks.len() as u64);
+        Ok(())
+    }
+
+    /// Records the puts of a round and answers them.
+    fn take(&mut self, jobs: &mut [Job]) -> Result<(), Memory>
+        ensures ok { OnOk result (Writes self.old self.new jobs.old jobs.new) }
+        ensures err { OnErr result ((jobs.new ≡ jobs.old) × Unchanged self.old self.new) }
+    {
+        let steps = plan_puts(self.alloc, &self.refusals, self.entries, jobs)?;
+        record_puts(&mut self.log, steps)?;
+        mark(&self.refusals, self.entries, jobs);
+        self.entries = self.entries.saturating_add(jobs.len() as u64);
+        Ok(())
+    }
+
+    #[tactic(auto, using(crate::proofs::RecordLaws::starved_same))]
+    fn serve_gets(&mut self, asks: &mut [Ask])
+        ensures { ServesGets self.old self.new asks.old asks.new }
+    {
+        if self.give(asks).is_err() {
+            starve_asks(asks);
+        }
+    }
+
+    fn serve_puts(&mut self, jobs: &mut [Job])
+        ensures { ServesPuts self.old self.new jobs.old jobs.new }
+    {
+        if self.take(jobs).is_err() {
+            starve_jobs(jobs);
+        }
+    }
+}
+
+impl Fleet for MemFleet {
+    ghost clouds = { width_of };
+
+    ghost tells = { Unit {0} };
+
+    ghost held = { contents_of };
+
+    ghost faults = { faults_of };
+
+    ghost counts_exactly = { Unit {0} };
+
+    ghost chunk_gets = { chunk_gets_of };
+
+    fn width(&self) -> usize {
+        self.width
+    }
+
+    fn get_round(&mut self, asks: &mut [Ask])
+        requires below { All (λ a. a.cloud < width_of self.old) asks.old }
+        requires once { AllPairs (λ a b. a.cloud ≢ b.cloud) asks.old }
+        ensures entries { map asked asks.new ≡ map asked asks.old }
+        ensures answered { All (λ a. a.answer ≢ Unanswered) asks.new }
+        ensures told { All (λ a. Answers a (contents_of self.old a.cloud a.key)) asks.new }
+        ensures failed { All (λ a. a.answer ≡ NoAnswer → Rose (faults_of self.old a.cloud) (faults_of self.new a.cloud)) asks.new }
+        ensures exact { (c : ℕ) → All (λ a. a.cloud ≡ c → a.answer ≢ NoAnswer) asks.new → faults_of self.new c ≡ faults_of self.old c }
+        ensures clouds { width_of self.new ≡ width_of self.old }
+        ensures held { contents_of self.new ≡ contents_of self.old }
+        ensures grows { Grows (faults_of self.old) (faults_of self.new) }
+        ensures gets { (c : ℕ) → chunk_gets_of self.new c ≡ got_count (chunk_gets_of self.old c) (chunks_got c asks.new) }
+        ensures serves { ServesGets self.old self.new asks.old asks.new }
+    {
+        self.serve_gets(asks);
+    }
+
+    fn put_round(&mut self, jobs: &mut [Job])
+        requires below { All (λ j. j.cloud < width_of self.old) jobs.old }
+        requires once { AllPairs (λ a b. a.cloud ≢ b.cloud) jobs.old }
+        requires whole { All (λ j. Whole j.bytes) jobs.old }
+        ensures entries { writes jobs.new ≡ writes jobs.old }
+        ensures answered { All (λ j. j.done ≢ Waiting) jobs.new }
+        ensures told { Leaves (touches jobs.new) (contents_of self.old) (contents_of self.new) }
+        ensures failed { All (λ j. j.done ≡ Failed → Rose (faults_of self.old j.cloud) (faults_of self.new j.cloud)) jobs.new }
+        ensures exact { (c : ℕ) → All (λ j. j.cloud ≡ c → j.done ≢ Failed) jobs.new → faults_of self.new c ≡ faults_of self.old c }
+        ensures clouds { width_of self.new ≡ width_of self.old }
+        ensures grows { Grows (faults_of self.old) (faults_of self.new) }
+        ensures gets { chunk_gets_of self.new ≡ chunk_gets_of self.old }
+        ensures serves { ServesPuts self.old self.new jobs.old jobs.new }
+    {
+        self.serve_puts(jobs);
+    }
+}

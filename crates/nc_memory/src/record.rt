@@ -1,0 +1,233 @@
+ghost use Rattle.std.specs.Prelude.{◌≡◌, ◌&&◌, ◌↔◌, IsTrue, ◌+◌, ◌<◌, ◌++◌, ◌∷◌, [], ℕ, List, nat_eq, find, take, map, length, option_map, option_copied, IfOk, OnOk, OnErr};
+ghost use Rattle.nc_cloud.specs.Fleet.{tally};
+ghost use Rattle.nc_memory.specs.Record.{counted, gifts, step_at, left, refused_at, value_after, value, steps_of, look_of, answer_of};
+ghost use Rattle.nc_cloud.specs.Contents.{nothing};
+
+use nc_name::{Blob, Key, Memory};
+use std::alloc::Global;
+use std::marker::Model;
+
+/// How the object of an entry that fails is left. `Broken` leaves the new bytes without their last byte.
+#[derive(Clone, Copy, Debug, PartialEq, Eq)]
+pub enum Torn {
+    Old,
+    New,
+    Gone,
+    Broken,
+}
+
+/// The entry of this number, from 1 on, fails so.
+#[derive(Clone, Copy, Debug)]
+pub struct Refusal {
+    pub nth: u64,
+    pub outcome: Torn,
+}
+
+/// A get that was served.
+#[derive(Clone, Copy, Debug)]
+pub struct Look {
+    pub cloud: u8,
+    /// It failed.
+    pub failed: bool,
+    /// It gave the bytes of a chunk.
+    pub gave_chunk: bool,
+}
+
+/// A put that was served.
+#[derive(Debug, Drop)]
+pub struct Step {
+    pub cloud: u8,
+    pub key: Key,
+    pub bytes: Blob,
+    pub refused: Option<Torn>,
+}
+
+/// Gets of one round, seen as their list.
+#[derive(Debug, Drop)]
+pub struct LookList {
+    looks: Vec<Look>,
+}
+
+impl Model for LookList {
+    ghost use Rattle.std.specs.Prelude.{List};
+    ghost use Rattle.nc_memory.specs.declared.record.Look.{Look};
+
+    ghost Value = { List Look };
+
+    ghost view = { λ l. l.looks.items };
+}
+
+impl LookList {
+    pub fn new(alloc: Global) -> LookList
+        ensures { result ≡ [] }
+    {
+        LookList {
+            looks: Vec::new(alloc),
+        }
+    }
+
+    pub fn is_empty(&self) -> bool
+        ensures { IsTrue result ↔ (self.now ≡ []) }
+    {
+        self.looks.is_empty()
+    }
+
+    pub fn push(&mut self, look: Look) -> Result<(), Memory>
+        ensures ok { OnOk result (self.new ≡ self.old ++ look ∷ []) }
+        ensures err { OnErr result (self.new ≡ self.old) }
+    {
+        match self.looks.push(look) {
+            Ok(()) => Ok(()),
+            Err(_) => Err(Memory),
+        }
+    }
+}
+
+/// Puts of one round, seen as their list.
+#[derive(Debug, Drop)]
+pub struct StepList {
+    steps: Vec<Step>,
+}
+
+impl Model for StepList {
+    ghost use Rattle.std.specs.Prelude.{List};
+    ghost use Rattle.nc_memory.specs.declared.record.Step.{Step};
+
+    ghost Value = { List Step };
+
+    ghost view = { λ s. s.steps.items };
+}
+
+impl StepList {
+    pub fn new(alloc: Global) -> StepList
+        ensures { result ≡ [] }
+    {
+        StepList {
+            steps: Vec::new(alloc),
+        }
+    }
+
+    pub fn is_empty(&self) -> bool
+        ensures { IsTrue result ↔ (self.now ≡ []) }
+    {
+        self.steps.is_empty()
+    }
+
+    pub fn push(&mut self, step: Step) -> Result<(), Memory>
+        ensures ok { OnOk result (self.new ≡ self.old ++ step ∷ []) }
+        ensures err { OnErr result (self.new ≡ self.old) }
+    {
+        match self.steps.push(step) {
+            Ok(()) => Ok(()),
+            Err(_) => Err(Memory),
+        }
+    }
+}
+
+/// What happened to a fleet.
+#[derive(Debug, Drop)]
+pub enum Event {
+    Gets(LookList),
+    Puts(StepList),
+    /// An object was placed without a round.
+    Planted { cloud: u8, key: Key, bytes: Blob },
+}
+
+/// The step of a cloud.
+pub(crate) fn step_of(steps: &StepList, cloud: u8) -> Option<&Step>
+    ensures { option_copied result ≡ step_at steps.now cloud }
+{
+    steps.steps.iter().find(|s| s.cloud == cloud)
+}
+
+/// What an object is after a put, where it was `old` before.
+fn object_left<'a>(step: &'a Step, old: Option<&'a [u8]>) -> Option<&'a [u8]>
+    ensures { option_map (λ r. r.now) result ≡ left step.now.refused step.now.bytes (option_map (λ r. r.now) old.entry) }
+{
+    let bytes = step.bytes.bytes();
+    match step.refused {
+        None => Some(bytes),
+        Some(Torn::Old) => old,
+        Some(Torn::New) => Some(bytes),
+        Some(Torn::Gone) => None,
+        Some(Torn::Broken) => Some(nc_bytes::part_of(bytes, 0, bytes.len().saturating_sub(1))),
+    }
+}
+
+/// What an object is after an event, where it was `old` before.
+fn object_after<'a>(
+    event: &'a Event,
+    cloud: u8,
+    key: &Key,
+    old: Option<&'a [u8]>,
+) -> Option<&'a [u8]>
+    ensures { option_map (λ r. r.now) result ≡ value_after event.now cloud key.now (option_map (λ r. r.now) old.entry) }
+{
+    match event {
+        Event::Gets(_) => old,
+        Event::Puts(steps) => match step_of(steps, cloud) {
+            Some(step) if step.key.is_same(key) => object_left(step, old),
+            _ => old,
+        },
+        Event::Planted {
+            cloud: place,
+            key: name,
+            bytes,
+        } => {
+            if *place == cloud && name.is_same(key) {
+                Some(bytes.bytes())
+            } else {
+                old
+            }
+        }
+    }
+}
+
+/// What a cloud holds under a key after these events.
+pub(crate) fn object_in<'a>(log: &'a [Event], cloud: u8, key: &Key) -> Option<&'a [u8]>
+    ensures { option_map (λ r. r.now) result ≡ value log.now cloud key.now None }
+{
+    let mut object = None;
+    for event in log {
+        object = object_after(event, cloud, key, object);
+    }
+    object
+}
+
+/// What entry i of a round fails with, where `entries` came before the round.
+pub(crate) fn refusal_of(refusals: &[Refusal], entries: u64, i: usize) -> Option<Torn>
+    ensures { result ≡ refused_at refusals.now (entries + i + 1) }
+{
+    for refusal in refusals {
+        if entries < refusal.nth && refusal.nth - entries - 1 == i as u64 {
+            return Some(refusal.outcome);
+        }
+    }
+    None
+}
+
+/// How many of these gets gave the bytes of a chunk of a cloud.
+fn given_by(looks: &LookList, cloud: u8) -> u64
+    ensures { result ≡ counted (tally (λ l. nat_eq l.cloud cloud && l.gave_chunk) looks.now) }
+{
+    let mut count: u64 = 0;
+    for look in &looks.looks {
+        if look.cloud == cloud && look.gave_chunk {
+            count = count.saturating_add(1);
+        }
+    }
+    count
+}
+
+/// How many gets of chunks of a cloud gave bytes.
+pub(crate) fn gifts_in(log: &[Event], cloud: u8) -> u64
+    ensures { result ≡ counted (gifts log.now cloud) }
+{
+    let mut count: u64 = 0;
+    for event in log {
+        if let Event::Gets(looks) = event {
+            count = count.saturating_add(given_by(looks, cloud));
+        }
+    }
+    count
+}

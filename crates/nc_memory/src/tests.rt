@@ -1,0 +1,119 @@
+ghost use Rattle.std.specs.Prelude.{◌≡◌, ◌<◌, ◌≤◌};
+ghost use Rattle.nc_name.specs.Keys.{Slots};
+ghost use Rattle.nc_memory.specs.Memory.{width_of};
+
+use crate::memory::MemFleet;
+use crate::record::Torn;
+use nc_cloud::{Answer, Ask, Done, Fleet, Job};
+use nc_frame::seal;
+use nc_name::{Blob, Key, Memory, Name};
+use std::alloc::Global;
+use std::test::Fail;
+
+fn chunk(name: Name) -> Key
+    ensures { Slots result }
+{
+    Key::Chunk {
+        name,
+        slot: 0,
+        row: 0,
+    }
+}
+
+/// Puts a frame of this payload on a cloud, in a round of its own.
+fn put(
+    alloc: Global,
+    fleet: &mut MemFleet,
+    cloud: u8,
+    key: &Key,
+    payload: &[u8],
+) -> Result<Done, Memory>
+    requires below { cloud < width_of fleet.old }
+    requires slots { Slots key.now }
+    ensures { width_of fleet.new ≡ width_of fleet.old }
+{
+    let bytes = seal(alloc, cloud, 4, key, payload)?;
+    let mut jobs = [Job {
+        cloud,
+        key: *key,
+        bytes,
+        done: Done::Waiting,
+    }];
+    fleet.put_round(&mut jobs);
+    Ok(jobs[0].done)
+}
+
+/// Asks a cloud for at most this much of an object, in a round of its own.
+fn get(fleet: &mut MemFleet, cloud: u8, key: &Key, most: u64) -> Ask
+    requires below { cloud < width_of fleet.old }
+    ensures { width_of fleet.new ≡ width_of fleet.old }
+{
+    let mut asks = [Ask {
+        cloud,
+        key: *key,
+        most,
+        answer: Answer::Waiting,
+    }];
+    fleet.get_round(&mut asks);
+    let [ask] = asks;
+    ask
+}
+
+fn gave(ask: &Ask, len: usize) -> bool {
+    match &ask.answer {
+        Answer::Bytes(bytes) => bytes.bytes().len() == len,
+        _ => false,
+    }
+}
+
+fn len_of(fleet: &MemFleet, cloud: u8, key: &Key) -> Option<usize> {
+    match fleet.object(cloud, key) {
+        None => None,
+        Some(bytes) => Some(bytes.len()),
+    }
+}
+
+/// What cloud 1 of 4 holds after a put of 58 bytes, and one of 59 that was told to fail so.
+fn len_after(alloc: Global, key: &Key, outcome: Torn) -> Result<Option<usize>, Memory>
+    requires slots { Slots key.now }
+{
+    let mut fleet = MemFleet::new(alloc, 4)?;
+    fleet.refuse(2, outcome)?;
+    put(alloc, &mut fleet, 1, key, &[4, 4])?;
+    put(alloc, &mut fleet, 1, key, &[5, 6, 7])?;
+    Ok(len_of(&fleet, 1, key))
+}
+
+#[test]
+fn a_put_is_read_back(rt: HostRuntime) -> Result<(), Fail> {
+    let key = chunk(Name::read("a")?);
+    let mut fleet = MemFleet::new(rt.alloc(), 4)?;
+    assert_eq!(rt; put(rt.alloc(), &mut fleet, 1, &key, &[4, 4])?, Done::Ok);
+    assert!(rt; gave(&get(&mut fleet, 1, &key, 58), 58));
+    assert!(rt; matches!(get(&mut fleet, 1, &key, 57).answer, Answer::Long));
+    assert!(rt; matches!(get(&mut fleet, 2, &key, 58).answer, Answer::Absent));
+    Ok(())
+}
+
+#[test]
+fn a_refused_put_leaves_what_was_told(rt: HostRuntime) -> Result<(), Fail> {
+    let key = chunk(Name::read("a")?);
+    assert_eq!(rt; len_after(rt.alloc(), &key, Torn::Old)?, Some(58));
+    assert_eq!(rt; len_after(rt.alloc(), &key, Torn::New)?, Some(59));
+    assert_eq!(rt; len_after(rt.alloc(), &key, Torn::Gone)?, None);
+    // 59 bytes without the last
+    assert_eq!(rt; len_after(rt.alloc(), &key, Torn::Broken)?, Some(58));
+    Ok(())
+}
+
+#[test]
+fn a_refused_get_fails_and_the_next_gives(rt: HostRuntime) -> Result<(), Fail> {
+    let key = chunk(Name::read("a")?);
+    let mut fleet = MemFleet::new(rt.alloc(), 4)?;
+    fleet.refuse(2, Torn::Old)?;
+    fleet.refuse(2, Torn::Gone)?;
+    assert_eq!(rt; put(rt.alloc(), &mut fleet, 1, &key, &[4, 4])?, Done::Ok);
+    assert!(rt; matches!(get(&mut fleet, 1, &key, 58).answer, Answer::Failed));
+    assert!(rt; gave(&get(&mut fleet, 1, &key, 58), 58));
+    Ok(())
+}
