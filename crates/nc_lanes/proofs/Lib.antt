@@ -1,0 +1,5 @@
+pub mod LaneLemmas
+pub mod LookUps
+pub mod Bits
+pub mod Progress
+pub mod DotLemmas
