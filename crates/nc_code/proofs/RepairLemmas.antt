@@ -13,7 +13,7 @@ use Rattle.nc_code.specs.Parts.{CodeParts, PlanParts, IsCode, IsPlan}
 use Rattle.nc_code.specs.Codes.{code_row, term, repaired_entry, repaired_row, repaired}
 use Rattle.nc_code.specs.RepairLaw.{RepairedTwice}
 use Rattle.nc_code.proofs.SameParts.{code_of}
-use Rattle.nc_code.proofs.RowSums.{get_or_zero}
+use Rattle.nc_code.proofs.FilledRows.{get_or_zero}
 
 pub term_lost : (code : CodeParts) (lost : ℕ) (plan : PlanParts) (r i t : ℕ) → t ≡ lost → term code lost plan r i t ≡ 0
 unfolding term
@@ -49,7 +49,7 @@ term_past code lost plan r i t is past = elim (cases_eq t lost) [
 new_row_past : (code : CodeParts) (lost : ℕ) (plan : PlanParts) (r i : ℕ) → IsCode code → native_count code.width ≤ i → get_or (repaired_row code lost plan r) i 0 ≡ 0
 unfolding repaired_row
 new_row_past code lost plan r i is past =
-    get_or_zero (repaired_entry code lost plan r) i (total_none code.width (term code lost plan r i) (λ t _. term_past code lost plan r i t is past))
+    get_or_zero (repaired_entry code lost plan r) 16 i (λ _. total_none code.width (term code lost plan r i) (λ t _. term_past code lost plan r i t is past))
 
 set_zero : (rows : List (List ℕ)) (j : ℕ) (row : List ℕ) (k : ℕ) → get_or row k 0 ≡ 0 → ((i : ℕ) → get_or (get_or rows i []) k 0 ≡ 0)
     → (i : ℕ) → get_or (get_or (set rows j row) i []) k 0 ≡ 0

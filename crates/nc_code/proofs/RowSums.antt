@@ -1,8 +1,6 @@
 -- Rows that are added, entry by entry.
-use Rattle.std.proofs.Common.{◌≡◌, ℕ, ◌<◌, ◌≤◌, List, length, get_or, map, ◌∙◌, bit_xor, arith, inl, inr, slice_index, replicate}
-use Rattle.std.specs.List.{range_with_len}
+use Rattle.std.proofs.Common.{◌≡◌, ℕ, ◌<◌, ◌≤◌, List, length, get_or, bit_xor, arith, inl, inr, slice_index, replicate}
 use Rattle.std.proofs.lemmas.Bool.{cases_lt}
-use Rattle.std.proofs.lemmas.List.FromFn.{get_or-map-range_with_len, length-map-range_with_len}
 use Rattle.std.proofs.lemmas.List.{get_or_past, get_or-replicate}
 use Rattle.nc_gf256.specs.Field.{mul}
 use Rattle.nc_gf256.proofs.FieldLaws.{mul_zero}
@@ -20,11 +18,4 @@ pub zeros : (k : ℕ) → slice_index (replicate 16 0) k ≡ 0
 zeros k = elim (cases_lt k 16) [
   | inl below ↦ get_or-replicate 16 k 0 0 below
   | inr past ↦ get_or_past (replicate 16 0) k 0 past
-]
-
--- what holds of each value of a function holds of each entry that is read from its list, past its end too
-pub get_or_zero : (f : ℕ → ℕ) (k : ℕ) → f k ≡ 0 → get_or (map f (range_with_len 0 16)) k 0 ≡ 0
-get_or_zero f k h = elim (cases_lt k 16) [
-  | inl below ↦ get_or-map-range_with_len f 0 16 k k 0 below (omega arith) ∙ h
-  | inr past ↦ get_or_past (map f (range_with_len 0 16)) k 0 (omega (arith, length-map-range_with_len f 0 16))
 ]

@@ -4,7 +4,6 @@ use Rattle.std.proofs.Common.{◌≡◌, ◌≢◌, ℕ, ◌+◌, ◌-◌, ◌*�
 use Rattle.std.specs.List.{range_with_len}
 use Rattle.std.proofs.lemmas.Bool.{cases_lt, cases_eq}
 use Rattle.std.proofs.lemmas.Bool.Decides.{nat_tests}
-use Rattle.std.proofs.lemmas.List.{get_or_past}
 use Rattle.std.proofs.lemmas.List.FromFn.{get_or-map-range_with_len, length-map-range_with_len}
 use Rattle.std.proofs.lemmas.Nat.{pow_below}
 use Rattle.nc_bytes.specs.Bytes.{AreBytes}
@@ -17,6 +16,7 @@ use Rattle.nc_code.specs.Parts.{PlanParts, IsPlan}
 use Rattle.nc_code.specs.Codes.{code_row, IsPairMds, repaired_row, repaired}
 use Rattle.nc_code.specs.Striped.{stripe, striped_entry, striped_row, striped_code}
 use Rattle.nc_code.proofs.RepairLemmas.{survivor_row, repaired_width}
+use Rattle.nc_code.proofs.FilledRows.{get_or_each}
 use Rattle.nc_code.proofs.RepairDots.{lost_row, new_row_zero}
 use Rattle.nc_mds.proofs.StripedRows.{along, stripe_on, stripe_off, dot_native, dot_sums, dot_powers}
 use Rattle.nc_mds.proofs.StripedMds.{striped_width}
@@ -31,17 +31,13 @@ entry_byte n c s i below =
     grind (arith, nat_tests)
 
 row_byte : (n i k : ℕ) → get_or (striped_row n i) k 0 < 256
-row_byte n i k = elim (cases_lt k 16) [
-  | inl below ↦ rw (get_or-map-range_with_len (striped_entry n (i / 2) (i % 2)) 0 16 k k 0 below (omega arith)) (entry_byte n (i / 2) (i % 2) k below)
-  | inr past ↦ rw (get_or_past (striped_row n i) k 0 (omega (arith, length-map-range_with_len (striped_entry n (i / 2) (i % 2)) 0 16))) (omega arith)
-]
+row_byte n i k =
+    get_or_each (λ (x : ℕ). x < 256) (striped_entry n (i / 2) (i % 2)) 16 k 0 (omega arith) (entry_byte n (i / 2) (i % 2) k)
 
 striped_bytes : (n i : ℕ) → AreBytes (slice_index_or (striped_code n).rows i [])
 unfolding striped_code
-striped_bytes n i k = elim (cases_lt i 20) [
-  | inl row ↦ rw (get_or-map-range_with_len (striped_row n) 0 20 i i [] row (omega arith)) (row_byte n i k)
-  | inr past ↦ rw (get_or_past (map (striped_row n) (range_with_len 0 20)) i [] (omega (arith, length-map-range_with_len (striped_row n) 0 20))) (omega arith)
-]
+striped_bytes n i k =
+    get_or_each (λ (row : List ℕ). slice_index row k < 256) (striped_row n) 20 i [] (omega arith) (λ _. row_byte n i k)
 
 striped_long : (n : ℕ) → length (striped_code n).rows ≡ 20
 unfolding striped_code
@@ -62,10 +58,8 @@ stripe_byte q u i bytes = elim (cases_eq (i % 2) q) [
 ]
 
 vector_bytes : (q : ℕ) (u : ℕ → ℕ) → ((k : ℕ) → u k < 256) → AreBytes (vector q u)
-vector_bytes q u bytes i = elim (cases_lt i 16) [
-  | inl below ↦ rw (vector_at q u i below) (stripe_byte q u i bytes)
-  | inr past ↦ rw (get_or_past (vector q u) i 0 (omega (arith, length-map-range_with_len (stripe q u) 0 16))) (omega arith)
-]
+vector_bytes q u bytes i =
+    get_or_each (λ (x : ℕ). x < 256) (stripe q u) 16 i 0 (omega arith) (λ _. stripe_byte q u i bytes)
 
 -- the vector is 0 in the other stripe
 vector_off : (q s c : ℕ) (u : ℕ → ℕ) → s < 2 → c < 8 → s ≢ q → slice_index (vector q u) (2 * c + s) ≡ 0

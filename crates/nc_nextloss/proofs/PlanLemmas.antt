@@ -1,13 +1,11 @@
 -- Plans that are read from bytes, and tries that are read one after the other.
-use Rattle.std.proofs.Common.{◌≡◌, ℕ, ◌+◌, ◌*◌, ◌<◌, ◌≤◌, List, [], ◌∷◌, get_or, map, slice_index, slice_index_or, refl, sym, ap, ◌∙◌, subst, arith, inl, inr, add-zero, true}
+use Rattle.std.proofs.Common.{◌≡◌, ℕ, ◌+◌, ◌*◌, ◌<◌, ◌≤◌, List, [], ◌∷◌, get_or, map, slice_index, slice_index_or, refl, sym, ap, ◌∙◌, subst, arith, add-zero, true}
 use Rattle.std.specs.List.{range_with_len}
-use Rattle.std.proofs.lemmas.Bool.{cases_lt}
 use Rattle.std.proofs.lemmas.Bool.Decides.{nat_tests}
-use Rattle.std.proofs.lemmas.List.{get_or_past}
-use Rattle.std.proofs.lemmas.List.FromFn.{get_or-map-range_with_len, length-map-range_with_len}
 use Rattle.nc_code.specs.Parts.{CodeParts, PlanParts}
 use Rattle.nc_code.specs.Codes.{IsBare, IsWitness, IsMds}
 use Rattle.nc_code.specs.Tries.{is_bare, choice_at, coef_at, coefs_at, plan_at, plan_len, from, try_at}
+use Rattle.nc_code.proofs.FilledRows.{get_or_each, get_or_zero}
 use Rattle.nc_mds.specs.Verdicts.{IsVerdict, IsFails}
 use Rattle.nc_mds.specs.declared.verdict.Verdict.{Verdict}
 use Rattle.nc_mds.specs.declared.verdict.Verdict.TheVariants.{Mds, Fails}
@@ -15,24 +13,11 @@ use Rattle.nc_nextloss.specs.Firsts.{IsGoodTry}
 
 -- ---- reading
 
--- what holds of each value of a function, and of 0, holds of each entry of its list
-small_at : (f : ℕ → ℕ) (t : ℕ) → ((k : ℕ) → f k < 2) → get_or (map f (range_with_len 0 10)) t 0 < 2
-small_at f t h = elim (cases_lt t 10) [
-  | inl below ↦ rw (get_or-map-range_with_len f 0 10 t t 0 below (omega arith)) (h t)
-  | inr past ↦ rw (get_or_past (map f (range_with_len 0 10)) t 0 (omega (arith, length-map-range_with_len f 0 10))) (omega arith)
-]
-
-zero_at : (f : ℕ → ℕ) (t : ℕ) → f t ≡ 0 → get_or (map f (range_with_len 0 10)) t 0 ≡ 0
-zero_at f t h = elim (cases_lt t 10) [
-  | inl below ↦ get_or-map-range_with_len f 0 10 t t 0 below (omega arith) ∙ h
-  | inr past ↦ get_or_past (map f (range_with_len 0 10)) t 0 (omega (arith, length-map-range_with_len f 0 10))
-]
-
 choice_small : (n lost : ℕ) (base byte : ℕ → ℕ) (t : ℕ) → base t < 2 → choice_at n lost base byte t < 2
 choice_small n lost base byte t h = grind (arith, nat_tests)
 
 pub choices_small : (n lost : ℕ) (base byte : ℕ → ℕ) (choice : List ℕ) → ((t : ℕ) → base t < 2) → choice ≡ map (choice_at n lost base byte) (range_with_len 0 10) → (t : ℕ) → slice_index choice t < 2
-choices_small n lost base byte choice h is t = rw is (small_at (choice_at n lost base byte) t (λ k. choice_small n lost base byte k (h k)))
+choices_small n lost base byte choice h is t = rw is (get_or_each (λ (x : ℕ). x < 2) (choice_at n lost base byte) 10 t 0 (omega arith) (λ _. choice_small n lost base byte t (h t)))
 
 bare_lost : (n lost t : ℕ) → t ≡ lost → is_bare n lost t ≡ true
 bare_lost n lost t e = grind (arith, nat_tests)
@@ -47,19 +32,16 @@ coef_bare : (n lost : ℕ) (byte : ℕ → ℕ) (r t : ℕ) → is_bare n lost t
 coef_bare n lost byte r t e = rw e
 
 coefs_bare : (n lost : ℕ) (byte : ℕ → ℕ) (r t : ℕ) → is_bare n lost t ≡ true → slice_index (slice_index_or (map (coefs_at n lost byte) (range_with_len 0 2)) r []) t ≡ 0
-coefs_bare n lost byte r t e = elim (cases_lt r 2) [
-  | inl row ↦
-      ap (λ (x : List ℕ). slice_index x t) (get_or-map-range_with_len (coefs_at n lost byte) 0 2 r r [] row (omega arith))
-      ∙ zero_at (coef_at n lost byte r) t (coef_bare n lost byte r t e)
-  | inr past ↦ ap (λ (x : List ℕ). slice_index x t) (get_or_past (map (coefs_at n lost byte) (range_with_len 0 2)) r [] (omega (arith, length-map-range_with_len (coefs_at n lost byte) 0 2)))
-]
+coefs_bare n lost byte r t e =
+    get_or_each (λ (x : List ℕ). slice_index x t ≡ 0) (coefs_at n lost byte) 2 r [] refl
+    (λ _. get_or_zero (coef_at n lost byte r) 10 t (λ _. coef_bare n lost byte r t e))
 
 -- a plan that is read says nothing of the lost cloud, nor past the width
 pub plan_bare : (n lost : ℕ) (base byte : ℕ → ℕ) → IsBare n lost (plan_at n lost base byte)
 unfolding plan_at
 plan_bare n lost base byte = record {
-  choice = zero_at (choice_at n lost base byte) lost (choice_bare n lost base byte lost (bare_lost n lost lost refl));
-  choice_past = λ t h. zero_at (choice_at n lost base byte) t (choice_bare n lost base byte t (bare_past n lost t h));
+  choice = get_or_zero (choice_at n lost base byte) 10 lost (λ _. choice_bare n lost base byte lost (bare_lost n lost lost refl));
+  choice_past = λ t h. get_or_zero (choice_at n lost base byte) 10 t (λ _. choice_bare n lost base byte t (bare_past n lost t h));
   coefs = λ r. coefs_bare n lost byte r lost (bare_lost n lost lost refl);
   coefs_past = λ r t h. coefs_bare n lost byte r t (bare_past n lost t h);
 }

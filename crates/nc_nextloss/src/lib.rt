@@ -10,7 +10,7 @@ mod witness;
 
 pub use good::{GoodCode, confirm};
 pub use laws::{check_striped_repair, striped_has_no_witness};
-pub use reading::{plan_len, read_plan};
+pub use reading::{drawn_plan, plan_len, position};
 pub use witness::{check_witness, first_witness};
 
 #[cfg(test)]
@@ -22,7 +22,7 @@ mod tests {
     fn plan(lost: u8, bytes: &[u8; 7]) -> Plan
         requires { lost < 4 }
     {
-        read_plan(4, lost, &[0; 10], bytes, 0)
+        drawn_plan(4, lost, &[0; 10], bytes, 0)
     }
 
     // The striped code, with the rows of cloud 1 and then those of cloud 0 made anew.
@@ -48,7 +48,7 @@ mod tests {
         assert_eq!(rt; read.choice, [0, 0, 0, 1, 0, 0, 0, 0, 0, 0]);
         assert_eq!(rt; read.coefs[0], [0, 5, 1, 5, 0, 0, 0, 0, 0, 0]);
         assert_eq!(rt; read.coefs[1], [0, 1, 7, 4, 0, 0, 0, 0, 0, 0]);
-        let turned = read_plan(
+        let turned = drawn_plan(
             4,
             2,
             &[1, 1, 0, 1, 0, 0, 0, 0, 0, 0],

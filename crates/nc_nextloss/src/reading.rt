@@ -14,10 +14,10 @@ pub fn plan_len(width: u8) -> usize
     1 + 2 * (width as usize - 1)
 }
 
-/// The plan for a loss that the bytes from place `at` on give with a base. The first byte, modulo 16, is the position of the
+/// The plan for a loss that drawn bytes, from place `at` on, give with a base. The first byte, modulo 16, is the position of the
 /// survivor whose choice is that of the base turned over; then come the factors of the survivors, ascending, in the new
 /// row 0 and then in row 1.
-pub fn read_plan(width: u8, lost: u8, base: &[u8; 10], bytes: &[u8], at: usize) -> Plan
+pub fn drawn_plan(width: u8, lost: u8, base: &[u8; 10], bytes: &[u8], at: usize) -> Plan
     requires wide { 4 ≤ width }
     requires narrow { width ≤ 10 }
     requires lost { lost < width }
@@ -86,7 +86,7 @@ fn coef(width: u8, lost: u8, bytes: &[u8], at: usize, r: u8, t: u8) -> u8
 }
 
 /// The position of a survivor among the clouds other than the lost one.
-fn position(lost: u8, t: u8) -> u8
+pub fn position(lost: u8, t: u8) -> u8
     ensures { result ≡ position_of lost t }
 {
     if lost < t { t - 1 } else { t }

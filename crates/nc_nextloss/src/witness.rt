@@ -5,7 +5,7 @@ ghost use Rattle.nc_mds.specs.Verdicts.{IsVerdict};
 ghost use Rattle.nc_mds.specs.declared.verdict.Verdict.TheVariants.{Mds};
 ghost use Rattle.nc_nextloss.specs.Firsts.{IsFirstWitness, IsGoodTry};
 
-use crate::reading::{plan_len, read_plan};
+use crate::reading::{drawn_plan, plan_len};
 use nc_code::{Code, Plan, repaired};
 use nc_mds::{Verdict, check};
 
@@ -41,7 +41,7 @@ pub fn first_witness(code: &Code, lost: u8, base: &[u8; 10], tries: &[u8]) -> Op
     let width = code.width;
     let each = plan_len(width);
     for j in 0..tries.len() / each {
-        let plan = read_plan(width, lost, base, tries, j * each);
+        let plan = drawn_plan(width, lost, base, tries, j * each);
         if is_witness(code, lost, &plan) {
             return Some(plan);
         }

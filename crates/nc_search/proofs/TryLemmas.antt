@@ -1,16 +1,11 @@
 -- How many tries a part of a block holds.
-use Rattle.std.proofs.Common.{◌≡◌, ℕ, suc, ◌+◌, ◌*◌, ◌/◌, ◌%◌, ◌<◌, ◌≤◌, List, length, drop, ap, ◌∙◌, subst, arith, slice_index, Option}
+use Rattle.std.proofs.Common.{◌≡◌, ℕ, suc, ◌+◌, ◌*◌, ◌/◌, ◌%◌, ◌<◌, ◌≤◌, List, length, ap, ◌∙◌, subst, arith, slice_index, Option}
 use Rattle.std.specs.Option.{IfSome}
 use Rattle.std.proofs.Math.Nat.{mul-div_cancel, mul-mod_left, mul-le-mul_right, suc-mul}
-use Rattle.std.proofs.lemmas.List.{length-take-le, length-drop}
-use Rattle.nc_bytes.specs.Bytes.{part}
 use Rattle.nc_code.specs.Parts.{CodeParts, PlanParts}
 use Rattle.nc_code.specs.Tries.{plan_len}
 use Rattle.nc_nextloss.specs.Firsts.{IsFirstWitness, IsGoodTry}
 use Rattle.nc_search.specs.Tries.{tries_len, HasGoodTry}
-
-pub length-part : (at n : ℕ) (bytes : List ℕ) → at + n ≤ length bytes → length (part at n bytes) ≡ n
-length-part at n bytes h = length-take-le n (drop at bytes) (omega (arith, length-drop at bytes))
 
 pub whole_tries : (n k : ℕ) → k ≡ tries_len n → k % plan_len n ≡ 0
 whole_tries n k is = ap (λ (j : ℕ). j % plan_len n) is ∙ mul-mod_left 16 (plan_len n)

@@ -1,7 +1,6 @@
 ghost use Rattle.std.specs.Prelude.{◌≡◌, ◌≢◌, ◌<◌, ◌≤◌, ℕ, Some, length, slice_index, IsNone, IfSome};
 ghost use Rattle.std.specs.Option.{option_copied};
 ghost use Rattle.nc_code.specs.Codes.{IsBare};
-ghost use Rattle.nc_code.specs.Tries.{position_of};
 ghost use Rattle.nc_search.specs.Tries.{HasGoodTry, IsFirstGoodTry};
 ghost use Rattle.nc_search.specs.Repairs.{repair_len, repair_block, repair_plan, repair_tries, turned_choice, turned_base, IsGoodRepair, IsRepairOf};
 ghost use Rattle.nc_search.specs.Searches.{IsMendSearch, mend_plan, IsGoodMend};
@@ -10,7 +9,7 @@ use crate::drawing::{fill, word_count};
 use crate::tries::{first_try, tries_len};
 use nc_code::{Code, Plan, Witnesses, repaired};
 use nc_mds::{Verdict, check};
-use nc_nextloss::{GoodCode, plan_len, read_plan};
+use nc_nextloss::{GoodCode, drawn_plan, plan_len, position};
 
 /// What the search for a repair found.
 #[derive(Clone, Copy, Debug)]
@@ -93,13 +92,13 @@ fn repair_plan(width: u8, stored: Option<&Plan>, lost: u8, index: u16, block: &[
     ensures bare { IsBare width lost result }
 {
     match stored {
-        None => read_plan(width, lost, &[0; 10], block, 0),
+        None => drawn_plan(width, lost, &[0; 10], block, 0),
         Some(plan) => {
             plan.kept();
             if index == 0 {
                 *plan
             } else {
-                read_plan(width, lost, &plan.choice, block, 0)
+                drawn_plan(width, lost, &plan.choice, block, 0)
             }
         }
     }
@@ -179,13 +178,6 @@ fn turned_choice(lost: u8, plan: &Plan, t: u8) -> u8
     } else {
         1 - plan.choice[t as usize]
     }
-}
-
-/// The position of a cloud among the clouds other than the lost one.
-fn position(lost: u8, t: u8) -> u8
-    ensures { result ≡ position_of lost t }
-{
-    if lost < t { t - 1 } else { t }
 }
 
 /// The bytes of a repair block at a width.

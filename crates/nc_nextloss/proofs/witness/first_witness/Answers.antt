@@ -9,8 +9,8 @@ pub loop-j-preserved : goal.loop-j-preserved
 loop-j-preserved c = λ k below. elim (cases_lt k c.loop-j.j) [
   | inl before ↦ c.loop-j.invariant k before
   | inr here ↦
-      not_tried c.args.code.now c.code.inside.width c.plan_len-each.result c.loop-j.j k c.args.lost (slice_index c.args.base.now) (slice_index c.args.tries.now) c.read_plan-plan.result
-      (ap (λ (x : CodeParts). x.width) c.code.view_is) c.plan_len-each.ensures (omega arith) c.read_plan-plan.ensures.plan (λ w. false≢true (c.if-is_witness.ensures.1 w))
+      not_tried c.args.code.now c.code.inside.width c.plan_len-each.result c.loop-j.j k c.args.lost (slice_index c.args.base.now) (slice_index c.args.tries.now) c.drawn_plan-plan.result
+      (ap (λ (x : CodeParts). x.width) c.code.view_is) c.plan_len-each.ensures (omega arith) c.drawn_plan-plan.ensures.plan (λ w. false≢true (c.if-is_witness.ensures.1 w))
 ]
 
 pub returns-clause-none : goal.returns-clause-none

@@ -1,8 +1,9 @@
 use Rattle.std.proofs.Common.{◌≡◌, ◌+◌, ◌≤◌, ℕ, List, length, slice_index, ap, ◌∙◌, subst}
 use Rattle.std.specs.Option.{IfSome}
 use Rattle.nc_bytes.specs.Bytes.{part}
+use Rattle.nc_bytes.proofs.Places.{length-part}
 use Rattle.nc_search.specs.Tries.{tries_len, tries_at, HasGoodTry, IsFirstGoodTry}
-use Rattle.nc_search.proofs.TryLemmas.{length-part, whole_tries, first_of_sixteen, none_of_sixteen}
+use Rattle.nc_search.proofs.TryLemmas.{whole_tries, first_of_sixteen, none_of_sixteen}
 use Rattle.nc_search.proofs.tries.first_try.Goals as goal
 
 -- the part that is handed on holds the tries

@@ -3,7 +3,7 @@ use Rattle.nc_code.specs.Parts.{PlanParts}
 use Rattle.nc_code.specs.Codes.{IsBare}
 use Rattle.nc_code.specs.Tries.{from}
 use Rattle.nc_nextloss.proofs.PlanLemmas.{choices_small, plan_bare, plan_is}
-use Rattle.nc_nextloss.proofs.reading.read_plan.Goals as goal
+use Rattle.nc_nextloss.proofs.reading.drawn_plan.Goals as goal
 
 pub new-requires : goal.new-requires
 new-requires c = choices_small c.args.width c.args.lost (slice_index c.args.base.now) (λ _. slice_index c.args.bytes.now c.args.at) c.choices-choice.result c.requires.base c.choices-choice.ensures
