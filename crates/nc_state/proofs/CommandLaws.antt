@@ -1,9 +1,10 @@
 -- Commands, round by round.
-use Rattle.std.proofs.Common.{◌≡◌, ◌+◌, ℕ, Bool, true, false, if◌then◌else◌, Option, None, Some, List, refl, sym, ap, ◌∙◌, subst, arith}
+use Rattle.std.proofs.Common.{◌≡◌, ◌+◌, ℕ, Bool, true, false, if◌then◌else◌, Option, None, Some, List, inl, inr, refl, sym, ap, ◌∙◌, subst, arith}
 use Rattle.std.specs.Str.{bytes_eq}
 use Rattle.std.proofs.lemmas.Slice.Eq.{bytes_eq-Decides}
 use Rattle.nc_meta.specs.declared.meta.Meta.{Meta}
 use Rattle.nc_cloud.specs.Contents.{Contents}
+use Rattle.nc_name.specs.Names.{IsName}
 use Rattle.nc_state.specs.Clouds.{Clouds}
 use Rattle.nc_state.specs.Versions.{Version, meta_of, version_generation}
 use Rattle.nc_state.specs.Holding.{AllHold, HoldsIfAny, NoneAbove}
@@ -11,9 +12,10 @@ use Rattle.nc_state.specs.Entries.{Entry, HasEntry}
 use Rattle.nc_state.specs.Entries.Entry.{Rest, Opened}
 use Rattle.nc_state.specs.Weighing.{after, all_outside_hold, settled, some_holds, weigh}
 use Rattle.nc_state.specs.Standing.{Entries, Stands, with_entry}
-use Rattle.nc_state.specs.Commands.{IsNext, MetasWritten, NothingToSettle, RestsBefore, RestsDone, Settling, StaysAtRest}
-use Rattle.nc_state.proofs.Weighs.{choice, open_settled, settled_weighs, weighs_itself}
-use Rattle.nc_state.proofs.AfterLaws.{after_settling, unwritten_weighs, written_rests}
+use Rattle.nc_state.specs.Commands.{IsNext, MetasWritten, NothingToSettle, RestsAfter, RestsAt, Settling, StaysAtRest}
+use Rattle.nc_state.specs.Laws.{AtRestIsAfter, EntriesAgree, NotBegun}
+use Rattle.nc_state.proofs.Weighs.{choice, held_outside, open_settled, settled_weighs, weighs_itself}
+use Rattle.nc_state.proofs.AfterLaws.{after_settling, held_rests, unwritten_weighs, written_rests}
 use Rattle.nc_state.proofs.RestingLaw.{resting_round_keeps}
 use Rattle.nc_state.proofs.MetaLaws.{meta_round_keeps, settle_round_keeps}
 
@@ -56,12 +58,51 @@ below_weighed n F G D name (Opened x y) has weighed =
     (below_choice n G D name x y (some_holds n G name y) (all_outside_hold n G D name y) has.between.next weighed)
 
 -- while nothing is above it, the command's version isn't begun
-not_begun : (n : ℕ) (F G : Contents) (D : Clouds) (name : List ℕ) (e : Entry) (x : Version) (made : Option Version) → IsNext n x made → NoneAbove n G name (version_generation x)
+unbegun_weighs : (n : ℕ) (F G : Contents) (D : Clouds) (name : List ℕ) (e : Entry) (x : Version) (made : Option Version) → IsNext n x made → NoneAbove n G name (version_generation x)
     → after n F G D name e made ≡ weigh n G D name e
-not_begun n F G D name e x None next below = refl
-not_begun n F G D name e x (Some y) next below = unwritten_weighs n F G D name e (version_generation x) y next.0 below (omega (arith, next.1))
+unbegun_weighs n F G D name e x None next below = refl
+unbegun_weighs n F G D name e x (Some y) next below = unwritten_weighs n F G D name e (version_generation x) y next.0 below (omega (arith, next.1))
 
--- ---- the laws
+-- ---- the laws on entries
+
+pub not_begun : NotBegun
+not_begun n F G D name (Rest x) made has now next = unbegun_weighs n F G D name (Rest x) x made next now.none_above
+not_begun n F G D name (Opened x y) made has now next =
+    let is = open_settled n F D name x y has in
+    unbegun_weighs n F G D name (Opened x y) (settled n F name (Opened x y)) made next
+    (subst (λ (z : Version). NoneAbove n G name (version_generation z)) (sym is) now.between.none_above)
+    ∙ weighs_itself n G D name (Opened x y) now
+
+pub at_rest_is_after : AtRestIsAfter
+at_rest_is_after n F G D name e z made wide few has rests next (inr new) =
+    ap (after n F G D name e) new ∙ held_rests n G D name (settled n F name e) (weigh n G D name e) z wide few rests
+at_rest_is_after n F G D name (Rest x) z made wide few has rests next (inl old) =
+    unbegun_weighs n F G D name (Rest x) x made next (subst (λ (w : Version). NoneAbove n G name (version_generation w)) old rests.none_above) ∙ ap Rest (sym old)
+at_rest_is_after n F G D name (Opened x y) z made wide few has rests next (inl old) =
+    let is : z ≡ y = old ∙ open_settled n F D name x y has in
+    unbegun_weighs n F G D name (Opened x y) (settled n F name (Opened x y)) made next (subst (λ (w : Version). NoneAbove n G name (version_generation w)) old rests.none_above)
+    ∙ ap (λ (w : Version). weigh n G D name (Opened x w)) (sym is)
+    ∙ (held_outside n G D name x z wide few rests.valid rests.held).1
+
+pub entries_agree : EntriesAgree
+entries_agree n F S T D stands agree = record {
+  wide = stands.wide;
+  narrow = stands.narrow;
+  few = stands.few;
+  entries = λ name is. subst (HasEntry n F D name) (agree name is) (stands.entries name is);
+  metas = stands.metas;
+  objects = stands.objects;
+}
+
+-- ---- the laws on commands
+
+rests_at : {n : ℕ} {G : Contents} {D : Clouds} (S : Entries) (name : List ℕ) (x : Version) → IsName name → Stands n G (with_entry S name (Rest x)) D → AllHold n G name x
+    → RestsAt n G S D name x
+rests_at {n} {G} {D} S name x is stands held = record {
+  stands = stands;
+  rests = subst (HasEntry n G D name) (entry_here S name (Rest x)) (stands.entries name is);
+  held = held;
+}
 
 pub settling : Settling
 settling n F G S D name m made is stands of_settled next image =
@@ -69,11 +110,9 @@ settling n F G S D name m made is stands of_settled next image =
     let kept = settle_round_keeps n F G S D name m is stands of_settled image in
     let weighed : HasEntry n G D name (weigh n G D name (S name)) = subst (HasEntry n G D name) (entry_here S name (weigh n G D name (S name))) (kept.entries name is) in
     let below = below_weighed n F G D name (S name) has weighed in (
-      stands_with S name (weigh n G D name (S name)) (after n F G D name (S name) made) (sym (not_begun n F G D name (S name) (settled n F name (S name)) made next below)) kept,
-      λ held. record {
-        stands = stands_with S name (weigh n G D name (S name)) (Rest (settled n F name (S name))) (settled_weighs n F G D name (S name) stands.wide has held) kept;
-        held = held;
-      },
+      stands_with S name (weigh n G D name (S name)) (after n F G D name (S name) made) (sym (unbegun_weighs n F G D name (S name) (settled n F name (S name)) made next below)) kept,
+      λ held. rests_at S name (settled n F name (S name)) is
+          (stands_with S name (weigh n G D name (S name)) (Rest (settled n F name (S name))) (settled_weighs n F G D name (S name) stands.wide has held) kept) held,
     )
 
 held_of_none : (n : ℕ) (F : Contents) (name : List ℕ) (o : Option Meta) → o ≡ None → (c : ℕ) → HoldsIfAny n F name c o
@@ -85,24 +124,17 @@ nothing_to_settle n F S D name is stands none =
     let has : HasEntry n F D name (S name) = stands.entries name is in
     let held : AllHold n F name (settled n F name (S name)) = λ c l. held_of_none n F name (meta_of (settled n F name (S name))) none c in
     let rests : S name ≡ Rest (settled n F name (S name)) = sym (weighs_itself n F D name (S name) has) ∙ settled_weighs n F F D name (S name) stands.wide has held in
-    record { stands = stands_with S name (S name) (Rest (settled n F name (S name))) rests (subst (λ (T : Entries). Stands n F T D) (sym (entry_same S name)) stands); held = held }
+    rests_at S name (settled n F name (S name)) is (stands_with S name (S name) (Rest (settled n F name (S name))) rests (subst (λ (T : Entries). Stands n F T D) (sym (entry_same S name)) stands)) held
 
 pub stays_at_rest : StaysAtRest
 stays_at_rest n F G S D name x is rests image =
     let kept = resting_round_keeps n F G (with_entry S name (Rest x)) D name x is rests.stands (entry_here S name (Rest x)) image in
-    record { stands = kept.0; held = kept.1 rests.held }
+    rests_at S name x is kept.0 (kept.1 rests.held)
 
-pub rests_before : RestsBefore
-rests_before n F G S D name made is stands rests next =
-    let has : HasEntry n F D name (S name) = stands.entries name is in
-    let here : HasEntry n G D name (Rest (settled n F name (S name))) = subst (HasEntry n G D name) (entry_here S name (Rest (settled n F name (S name)))) (rests.stands.entries name is) in
-    let e : after n F G D name (S name) made ≡ Rest (settled n F name (S name)) =
-    not_begun n F G D name (S name) (settled n F name (S name)) made next here.none_above ∙ settled_weighs n F G D name (S name) stands.wide has rests.held in
-    stands_with S name (Rest (settled n F name (S name))) (after n F G D name (S name) made) (sym e) rests.stands
-
-pub rests_done : RestsDone
-rests_done n F G S D name y valid rests =
-    stands_with S name (Rest y) (after n F G D name (S name) (Some y)) (sym (written_rests n F G D name (S name) y rests.stands.wide valid rests.held)) rests.stands
+pub rests_after : RestsAfter
+rests_after n F G S D name z made is stands rests next which =
+    stands_with S name (Rest z) (after n F G D name (S name) made)
+    (sym (at_rest_is_after n F G D name (S name) z made stands.wide stands.few (stands.entries name is) rests.rests next which)) rests.stands
 
 pub metas_written : MetasWritten
 metas_written n F H G S D name y m is stands rests next of_y places image =
@@ -117,8 +149,5 @@ metas_written n F H G S D name y m is stands rests next of_y places image =
     subst (λ (U : Entries). Stands n G U D) (entry_over S name (Rest (settled n F name (S name))) (after n H G D name (T name) (Some y))) kept.0 in
     let now = stands_with S name (after n H G D name (T name) (Some y)) (after n F G D name (S name) (Some y)) same once in (
       now,
-      λ all. record {
-        stands = stands_with S name (after n F G D name (S name) (Some y)) (Rest y) (written_rests n F G D name (S name) y stands.wide next.0 all) now;
-        held = all;
-      },
+      λ all. rests_at S name y is (stands_with S name (after n F G D name (S name) (Some y)) (Rest y) (written_rests n F G D name (S name) y stands.wide next.0 all) now) all,
     )

@@ -14,7 +14,7 @@ use Rattle.nc_cloud.specs.Contents.{Contents}
 use Rattle.nc_state.specs.Versions.{Version, IsValid, meta_of}
 use Rattle.nc_state.specs.Versions.Version.{Never, Removed, Stored}
 use Rattle.nc_state.specs.Laws.{HeldIsSealed}
-use Rattle.nc_state.specs.Holding.{HoldsIfAny, HoldsVersion, holds, holds_meta, is_object, meta_key, meta_object}
+use Rattle.nc_state.specs.Holding.{Holds, HoldsIfAny, HoldsVersion, holds, holds_meta, is_object, meta_key, meta_object}
 
 object_is : (n : ℕ) (name : List ℕ) (c : ℕ) (m : Meta) → meta_object n name c m ≡ frame c n (key_text (meta_key name m)) (spelling n m)
 unfolding meta_object
@@ -40,6 +40,17 @@ same_object n name c k m wide narrow is l k_fits m_fits e =
     let sealed_m = subst (λ (bytes : List ℕ). Sealed bytes c n (key_text (meta_key name m)) (spelling n m)) (sym e) (object_sealed n name c m wide narrow is l m_fits) in
     let same = same_parts _ _ _ _ _ _ _ _ _ sealed_k sealed_m in
     one_spelling n wide narrow (spelling n k) k m (spells_itself n k k_fits) (subst (λ (q : List ℕ). Spells n q m) (sym same.payload) (spells_itself n m m_fits))
+
+-- a version without a meta was never stored
+pub never_of : (x : Version) → meta_of x ≡ None → x ≡ Never
+never_of Never is = refl
+never_of (Removed generation) is = absurd cc
+never_of (Stored m v) is = absurd cc
+
+-- what a cloud that holds no meta of the name holds of a version is nothing
+pub no_meta_held : (n : ℕ) (F : Contents) (name : List ℕ) (c : ℕ) (o : Option Meta) → ((m : Meta) → Holds n F name c m → ⊥) → HoldsIfAny n F name c o → o ≡ None
+no_meta_held n F name c None none h = refl
+no_meta_held n F name c (Some m) none h = absurd (none m h)
 
 -- the meta of a valid version can be stored
 pub meta_valid : (n : ℕ) (x : Version) → IsValid n x → IfSome (meta_of x) (IsMeta n)

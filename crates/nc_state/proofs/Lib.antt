@@ -10,6 +10,7 @@ pub mod RestingLaw
 pub mod MetaWrites
 pub mod MetaLaws
 pub mod TopLaw
+pub mod ShownLaw
 pub mod Images
 pub mod AfterLaws
 pub mod ChunkLaws

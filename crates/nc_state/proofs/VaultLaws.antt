@@ -12,21 +12,13 @@ use Rattle.nc_state.specs.Holding.{Holds, HoldsIfAny, HoldsVersion, meta_key}
 use Rattle.nc_state.specs.Right.{IsRight, HasChunkAt}
 use Rattle.nc_state.specs.Entries.{Entry, HasEntry}
 use Rattle.nc_state.specs.Entries.Entry.{Rest, Opened}
-use Rattle.nc_state.specs.Standing.{IsHealed}
-use Rattle.nc_state.specs.Laws.{HealedStands, UnheldRests, UnlistedRests}
+use Rattle.nc_name.specs.Names.{IsName}
+use Rattle.nc_state.specs.Standing.{Entries, IsHealed, Stands}
+use Rattle.nc_state.proofs.Held.{never_of, no_meta_held}
+use Rattle.nc_state.specs.Laws.{HealedStands, UnlistedRests}
 use Rattle.nc_state.proofs.CloudSets.{some_outside}
 
 -- ---- names
-
-never_of : (x : Version) → meta_of x ≡ None → x ≡ Never
-never_of Never is = refl
-never_of (Removed generation) is = absurd cc
-never_of (Stored m v) is = absurd cc
-
--- what a cloud that holds no meta of the name holds of a version is nothing
-no_meta_held : (n : ℕ) (F : Contents) (name : List ℕ) (c : ℕ) (o : Option Meta) → ((m : Meta) → Holds n F name c m → ⊥) → HoldsIfAny n F name c o → o ≡ None
-no_meta_held n F name c None none h = refl
-no_meta_held n F name c (Some m) none h = absurd (none m h)
 
 unheld_entry : (n : ℕ) (F : Contents) (D : Clouds) (name : List ℕ) (e : Entry) → 4 ≤ n → count_of n D ≤ 2 → ((c : ℕ) (m : Meta) → c < n → Holds n F name c m → ⊥) → HasEntry n F D name e → e ≡ Rest Never
 unheld_entry n F D name (Rest x) wide few none r =
@@ -37,7 +29,9 @@ unheld_entry n F D name (Opened x y) wide few none o =
     let least : version_generation y ≡ 0 = ap (λ m. option_map_or generation_of m 0) no_new in
     absurd (omega (arith, o.between.next))
 
-pub unheld_rests : UnheldRests
+-- a name of which no cloud holds a meta rests at Never
+unheld_rests : (n : ℕ) (F : Contents) (S : Entries) (D : Clouds) (name : List ℕ)
+    → IsName name → Stands n F S D → ((c : ℕ) (m : Meta) → c < n → Holds n F name c m → ⊥) → S name ≡ Rest Never
 unheld_rests n F S D name is stands none = unheld_entry n F D name (S name) stands.wide stands.few none (stands.entries name is)
 
 -- a cloud that holds a meta of the name lists it

@@ -3,14 +3,14 @@ use Rattle.std.proofs.Common.{◌≡◌, ◌<◌, ◌≤◌, ◌||◌, ℕ, Bool
 use Rattle.std.proofs.lemmas.Bool.Decides.{not_from_Decides}
 use Rattle.nc_meta.specs.Metas.{generation_of}
 use Rattle.nc_cloud.specs.Contents.{Contents}
-use Rattle.nc_state.specs.Clouds.{Clouds}
+use Rattle.nc_state.specs.Clouds.{Clouds, count_of}
 use Rattle.nc_state.specs.Versions.{Version, version_generation, IsValid}
-use Rattle.nc_state.specs.Holding.{AllHold, HoldsIfAny, HoldsVersion, NoneAbove, holds}
+use Rattle.nc_state.specs.Holding.{AllHold, HeldOutside, HoldsIfAny, HoldsVersion, NoneAbove, holds}
 use Rattle.nc_state.specs.Entries.{Between, IsOpen, Entry, HasEntry}
 use Rattle.nc_state.specs.Entries.Entry.{Rest, Opened}
 use Rattle.nc_state.specs.Weighing.{after, all_outside_hold, settled, some_holds, weigh}
-use Rattle.nc_state.specs.Laws.{SettledWeighs, WeighsItself}
-use Rattle.nc_state.proofs.CloudSets.{all_here, all_there, any_here, any_there, not_all, or_false, or_true, true_not_false}
+use Rattle.nc_state.specs.Laws.{StepSettlesOn, WeighsItself}
+use Rattle.nc_state.proofs.CloudSets.{all_here, all_there, any_here, any_there, not_all, or_false, or_true, some_outside, true_not_false}
 use Rattle.nc_state.proofs.Held.{holds-Decides}
 
 -- the weighed entry, by the two tests
@@ -85,7 +85,7 @@ pub weighs_itself : WeighsItself
 weighs_itself n F D name (Rest x) r = refl
 weighs_itself n F D name (Opened x y) o = weigh_by n F D name x y true false (open_some n F D name x y o) (open_not n F D name x y o)
 
-pub open_settled : (n : ℕ) (F : Contents) (D : Clouds) (name : List ℕ) (x y : Version) → IsOpen n F D name x y → settled n F name (Opened x y) ≡ y
+pub open_settled : StepSettlesOn
 open_settled n F D name x y o = ap (λ (b : Bool). if b then y else x) (open_some n F D name x y o)
 
 or_second : (a b : Bool) → b ≡ true → (a || b) ≡ true
@@ -101,7 +101,22 @@ all_held n G D name x y wide valid held =
     let some = any_here n (holds n G name y) 0 one (each 0 one) in
     (some, weigh_by n G D name x y true true some (all_here n (λ k. D k || holds n G name y k) (λ c l. or_second (D c) (holds n G name y c) (each c l))))
 
-pub settled_weighs : SettledWeighs
+or_holds : (a b : Bool) → (a ≡ false → b ≡ true) → (a || b) ≡ true
+or_holds true b held = refl
+or_holds false b held = held refl
+
+-- the same where all clouds outside D hold it, and D is at most two
+pub held_outside : (n : ℕ) (G : Contents) (D : Clouds) (name : List ℕ) (x y : Version) → 4 ≤ n → count_of n D ≤ 2 → IsValid n y → HeldOutside n G D name y
+    → (some_holds n G name y ≡ true) × (weigh n G D name (Opened x y) ≡ Rest y)
+held_outside n G D name x y wide few valid held =
+    let each : (c : ℕ) → c < n → D c ≡ false → holds n G name y c ≡ true = λ c l out. (holds-Decides n G name y valid c).1 (held c l out) in
+    let one = some_outside n D (omega arith) in
+    let some = any_here n (holds n G name y) one.0 one.1 (each one.0 one.1 one.2) in
+    (some, weigh_by n G D name x y true true some (all_here n (λ k. D k || holds n G name y k) (λ c l. or_holds (D c) (holds n G name y c) (each c l))))
+
+-- once all clouds hold what was settled, the entry from before weighs as that at rest
+pub settled_weighs : (n : ℕ) (F G : Contents) (D : Clouds) (name : List ℕ) (e : Entry) → 4 ≤ n → HasEntry n F D name e → AllHold n G name (settled n F name e)
+    → weigh n G D name e ≡ Rest (settled n F name e)
 settled_weighs n F G D name (Rest x) wide r all = refl
 settled_weighs n F G D name (Opened x y) wide o all =
     let is = open_settled n F D name x y o in

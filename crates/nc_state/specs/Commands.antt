@@ -1,5 +1,5 @@
 -- A command on one name, round by round, from the contents F that it began at.
-use Rattle.std.specs.Prelude.{ℕ, ◌≡◌, ◌+◌, Option, None, Some, List}
+use Rattle.std.specs.Prelude.{ℕ, ◌≡◌, ◌+◌, ◌⊎◌, Option, None, Some, List}
 use Rattle.nc_name.specs.Names.{IsName}
 use Rattle.nc_meta.specs.declared.meta.Meta.{Meta}
 use Rattle.nc_cloud.specs.Contents.{Contents}
@@ -7,6 +7,7 @@ use Rattle.nc_state.specs.Clouds.{Clouds}
 use Rattle.nc_state.specs.Versions.{Version, IsValid, meta_of, version_generation}
 use Rattle.nc_state.specs.Holding.{AllHold}
 use Rattle.nc_state.specs.Right.{PlacesStand}
+use Rattle.nc_state.specs.Entries.{Rests}
 use Rattle.nc_state.specs.Entries.Entry.{Rest}
 use Rattle.nc_state.specs.Weighing.{after, settled}
 use Rattle.nc_state.specs.Standing.{Entries, Stands, with_entry}
@@ -20,6 +21,7 @@ IsNext n x (Some y) = IsValid n y × (version_generation y ≡ version_generatio
 -- the contents G stand with the name at rest at x, and all clouds hold its meta
 pub record RestsAt (n : ℕ) (G : Contents) (S : Entries) (D : Clouds) (name : List ℕ) (x : Version) : Type 0 where
   pub stands : Stands n G (with_entry S name (Rest x)) D
+  pub rests : Rests n G D name x
   pub held : AllHold n G name x
 
 -- G stands with the entry of a command on the name that began at F
@@ -43,12 +45,6 @@ abbrev pub StaysAtRest : Type 0
 StaysAtRest = (n : ℕ) (F G : Contents) (S : Entries) (D : Clouds) (name : List ℕ) (x : Version)
     → IsName name → RestsAt n F S D name x → IsImage n (LeavesAtRest n D name x) F G → RestsAt n G S D name x
 
--- at rest at what was settled, the command's version isn't begun
-abbrev pub RestsBefore : Type 0
-RestsBefore = (n : ℕ) (F G : Contents) (S : Entries) (D : Clouds) (name : List ℕ) (made : Option Version)
-    → IsName name → Stands n F S D → RestsAt n G S D name (settled n F name (S name)) → IsNext n (settled n F name (S name)) made
-    → StandsAfter n F G S D name made
-
 -- the round of metas, from H on: each image stands, and the name is at rest at its version once all clouds hold its meta
 abbrev pub MetasWritten : Type 0
 MetasWritten = (n : ℕ) (F H G : Contents) (S : Entries) (D : Clouds) (name : List ℕ) (y : Version) (m : Meta)
@@ -56,7 +52,8 @@ MetasWritten = (n : ℕ) (F H G : Contents) (S : Entries) (D : Clouds) (name : L
     → meta_of y ≡ Some m → PlacesStand n H D name y → IsImage n (WritesMeta n name m) H G
     → StandsAfter n F G S D name (Some y) × (AllHold n G name y → RestsAt n G S D name y)
 
--- at rest at its version, the command is done
-abbrev pub RestsDone : Type 0
-RestsDone = (n : ℕ) (F G : Contents) (S : Entries) (D : Clouds) (name : List ℕ) (y : Version)
-    → IsValid n y → RestsAt n G S D name y → StandsAfter n F G S D name (Some y)
+-- at rest at what was settled, or at the command's version, it stands with the entry of the command
+abbrev pub RestsAfter : Type 0
+RestsAfter = (n : ℕ) (F G : Contents) (S : Entries) (D : Clouds) (name : List ℕ) (z : Version) (made : Option Version)
+    → IsName name → Stands n F S D → RestsAt n G S D name z → IsNext n (settled n F name (S name)) made
+    → (z ≡ settled n F name (S name)) ⊎ (made ≡ Some z) → StandsAfter n F G S D name made

@@ -1,5 +1,5 @@
 -- The laws of what stands.
-use Rattle.std.specs.Prelude.{ℕ, ◌≡◌, ◌+◌, ◌*◌, ◌<◌, ◌≤◌, ◌↔◌, Contains, Option, Some, List, [], IfSome, slice_index, slice_index_or}
+use Rattle.std.specs.Prelude.{ℕ, ◌≡◌, ◌≢◌, ◌+◌, ◌*◌, ◌<◌, ◌≤◌, ◌↔◌, ◌⊎◌, false, Contains, Option, Some, List, [], IfSome, slice_index, slice_index_or}
 use Rattle.sha2.specs.Sha256.{sha256}
 use Rattle.nc_native.specs.Native.{combination}
 use Rattle.nc_code.specs.Parts.{PlanParts}
@@ -17,12 +17,14 @@ use Rattle.nc_cloud.specs.Images.{Image}
 use Rattle.nc_state.specs.Clouds.{Clouds, count_of, no_cloud, with_cloud, without_cloud}
 use Rattle.nc_state.specs.Versions.Version.{Never, Removed, Stored}
 use Rattle.nc_state.specs.Versions.{Version, IsValid, meta_of, version_generation}
-use Rattle.nc_state.specs.Holding.{AllHold, Holds, HoldsSealed, IsTop, NoneAbove}
+use Rattle.nc_state.specs.Holding.{AllHold, Holds, HoldsSealed}
 use Rattle.nc_state.specs.Right.{HasChunkAt, PlacesStand, RightOn, free_slot_of}
-use Rattle.nc_state.specs.Entries.{Entry, HasEntry}
-use Rattle.nc_state.specs.Entries.Entry.{Rest}
+use Rattle.nc_state.specs.Entries.{Entry, HasEntry, Rests}
+use Rattle.nc_state.specs.Entries.Entry.{Rest, Opened}
 use Rattle.nc_state.specs.Weighing.{after, settled, weigh}
+use Rattle.nc_state.specs.Showing.{AreBearable, IsSeenTop, IsShown, ReadsAs, UnlistedOutside}
 use Rattle.nc_state.specs.Standing.{AreNames, Entries, IsHealed, Stands, no_entry, with_entry}
+use Rattle.nc_state.specs.Commands.{IsNext}
 use Rattle.nc_state.specs.Losses.{Loses, weighed}
 use Rattle.nc_state.specs.Mending.{IsMended}
 use Rattle.nc_state.specs.Rounds.{IsEntry, IsImage, LeavesAtRest, WritesMeta, WritesMissing}
@@ -69,25 +71,15 @@ MetaRoundKeeps = (n : ℕ) (F G : Contents) (S : Entries) (D : Clouds) (name : L
 abbrev pub WeighsItself : Type 0
 WeighsItself = (n : ℕ) (F : Contents) (D : Clouds) (name : List ℕ) (e : Entry) → HasEntry n F D name e → weigh n F D name e ≡ e
 
--- once all clouds hold what was settled, the entry from before weighs as that at rest
-abbrev pub SettledWeighs : Type 0
-SettledWeighs = (n : ℕ) (F G : Contents) (D : Clouds) (name : List ℕ) (e : Entry) → 4 ≤ n → HasEntry n F D name e → AllHold n G name (settled n F name e)
-    → weigh n G D name e ≡ Rest (settled n F name e)
+-- while damaged and failing clouds are at most two together, what is seen is shown
+abbrev pub SeenIsShown : Type 0
+SeenIsShown = (n : ℕ) (F : Contents) (S : Entries) (D X : Clouds) (name : List ℕ) (top : Option Meta)
+    → IsName name → Stands n F S D → AreBearable n D X → IsSeenTop n F X name top → IsShown n F D X name (S name) top
 
--- the highest meta that some cloud holds is that of the settled version
-abbrev pub TopIsSettled : Type 0
-TopIsSettled = (n : ℕ) (F : Contents) (S : Entries) (D : Clouds) (name : List ℕ) (m : Meta)
-    → IsName name → Stands n F S D → IsTop n F name m → meta_of (settled n F name (S name)) ≡ Some m
-
--- a name of which no cloud holds a meta rests at Never
-abbrev pub UnheldRests : Type 0
-UnheldRests = (n : ℕ) (F : Contents) (S : Entries) (D : Clouds) (name : List ℕ)
-    → IsName name → Stands n F S D → ((c : ℕ) (m : Meta) → c < n → Holds n F name c m → ⊥) → S name ≡ Rest Never
-
--- no two metas of the highest generation differ
-abbrev pub TopIsOne : Type 0
-TopIsOne = (n : ℕ) (F : Contents) (S : Entries) (D : Clouds) (name : List ℕ) (c : ℕ) (m k : Meta)
-    → IsName name → Stands n F S D → IsTop n F name m → c < n → Holds n F name c k → generation_of k ≡ generation_of m → k ≡ m
+-- a name of which no cloud that answered holds an object shows that it was never stored
+abbrev pub UnlistedIsShown : Type 0
+UnlistedIsShown = (n : ℕ) (F : Contents) (S : Entries) (D X : Clouds) (name : List ℕ)
+    → IsName name → Stands n F S D → AreBearable n D X → UnlistedOutside n F X name → ReadsAs n F X name (S name) Never
 
 -- no frame of another cloud or width stands under a key of metadata
 abbrev pub NoneMisplaced : Type 0
@@ -99,23 +91,30 @@ abbrev pub SettledStands : Type 0
 SettledStands = (n : ℕ) (F : Contents) (S : Entries) (D : Clouds) (name : List ℕ)
     → IsName name → Stands n F S D → IsValid n (settled n F name (S name)) × PlacesStand n F D name (settled n F name (S name))
 
--- ---- the entry after a command
+-- ---- entries, and the entry after a command
 
--- while no cloud holds a meta as high as the new version's, the entry is weighed as if the command made none
-abbrev pub UnwrittenWeighs : Type 0
-UnwrittenWeighs = (n : ℕ) (F G : Contents) (D : Clouds) (name : List ℕ) (e : Entry) (g : ℕ) (y : Version)
-    → IsValid n y → NoneAbove n G name g → g < version_generation y → after n F G D name e (Some y) ≡ weigh n G D name e
+-- an unfinished step is settled on its second version
+abbrev pub StepSettlesOn : Type 0
+StepSettlesOn = (n : ℕ) (F : Contents) (D : Clouds) (name : List ℕ) (x y : Version) → HasEntry n F D name (Opened x y) → settled n F name (Opened x y) ≡ y
 
--- while all clouds hold what was settled, the entry is the one from that version at rest
-abbrev pub AfterSettling : Type 0
-AfterSettling = (n : ℕ) (F G : Contents) (D : Clouds) (name : List ℕ) (e : Entry) (made : Option Version)
-    → 4 ≤ n → HasEntry n F D name e → AllHold n G name (settled n F name e)
-    → after n F G D name e made ≡ after n F G D name (Rest (settled n F name e)) made
+-- while the entry stands as it was, the command's version isn't begun
+abbrev pub NotBegun : Type 0
+NotBegun = (n : ℕ) (F G : Contents) (D : Clouds) (name : List ℕ) (e : Entry) (made : Option Version)
+    → HasEntry n F D name e → HasEntry n G D name e → IsNext n (settled n F name e) made → after n F G D name e made ≡ e
 
--- once all clouds hold the new version's meta, it is that version at rest
-abbrev pub WrittenRests : Type 0
-WrittenRests = (n : ℕ) (F G : Contents) (D : Clouds) (name : List ℕ) (e : Entry) (y : Version)
-    → 4 ≤ n → IsValid n y → AllHold n G name y → after n F G D name e (Some y) ≡ Rest y
+-- at rest at what was settled, or at the version that the command makes, this is the entry after the command
+abbrev pub AtRestIsAfter : Type 0
+AtRestIsAfter = (n : ℕ) (F G : Contents) (D : Clouds) (name : List ℕ) (e : Entry) (z : Version) (made : Option Version)
+    → 4 ≤ n → count_of n D ≤ 2 → HasEntry n F D name e → Rests n G D name z → IsNext n (settled n F name e) made
+    → (z ≡ settled n F name e) ⊎ (made ≡ Some z) → after n F G D name e made ≡ Rest z
+
+-- entries count by name alone
+abbrev pub EntriesAgree : Type 0
+EntriesAgree = (n : ℕ) (F : Contents) (S T : Entries) (D : Clouds) → Stands n F S D → ((name : List ℕ) → IsName name → S name ≡ T name) → Stands n F T D
+
+-- at most two clouds are damaged: two numbers, outside which none is
+abbrev pub TwoAtMost : Type 0
+TwoAtMost = (n : ℕ) (D : Clouds) → count_of n D ≤ 2 → (a b : ℕ) × ((c : ℕ) → c < n → c ≢ a → c ≢ b → D c ≡ false)
 
 -- ---- the chunks of a version
 

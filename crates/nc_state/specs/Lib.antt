@@ -4,6 +4,7 @@ pub mod Holding
 pub mod Right
 pub mod Entries
 pub mod Weighing
+pub mod Showing
 pub mod Standing
 pub mod Losses
 pub mod Rounds

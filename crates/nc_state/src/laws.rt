@@ -1,7 +1,7 @@
 //! Laws of what stands. Each function does nothing; its contract is the law.
 
-ghost use Rattle.nc_state.specs.Commands.{MetasWritten, NothingToSettle, RestsBefore, RestsDone, Settling, StaysAtRest};
-ghost use Rattle.nc_state.specs.Laws.{AfterSettling, EmptyStands, FreeSlotIsFree, HealedStands, HeldIsSealed, LossKeeps, MendedIsFree, MendedIsValid, MendedPlacesStand, MetaRoundKeeps, NoneMisplaced, RemovedPlacesStand, RestingRoundKeeps, RightPlacesStand, RoundIsImage, SettleRoundKeeps, SettledStands, SettledWeighs, TopIsOne, TopIsSettled, UnheldRests, UnlistedRests, UnwrittenWeighs, WeighsItself, WrittenRests};
+ghost use Rattle.nc_state.specs.Commands.{MetasWritten, NothingToSettle, RestsAfter, Settling, StaysAtRest};
+ghost use Rattle.nc_state.specs.Laws.{AtRestIsAfter, EmptyStands, EntriesAgree, FreeSlotIsFree, HealedStands, HeldIsSealed, LossKeeps, MendedIsFree, MendedIsValid, MendedPlacesStand, MetaRoundKeeps, NoneMisplaced, NotBegun, RemovedPlacesStand, RestingRoundKeeps, RightPlacesStand, RoundIsImage, SeenIsShown, SettleRoundKeeps, SettledStands, StepSettlesOn, TwoAtMost, UnlistedIsShown, UnlistedRests, WeighsItself};
 
 /// Clouds without objects stand for no names.
 pub fn empty_stands()
@@ -43,24 +43,39 @@ pub fn weighs_itself()
     ensures { WeighsItself }
 {}
 
-/// Settling brings a name to rest.
-pub fn settled_weighs()
-    ensures { SettledWeighs }
+/// What the clouds that answered show of a name is what its entry shows.
+pub fn seen_is_shown()
+    ensures { SeenIsShown }
 {}
 
-/// What is settled on is the highest metadata that some cloud holds.
-pub fn top_is_settled()
-    ensures { TopIsSettled }
+/// A name of which no cloud that answered holds an object shows that it was never stored.
+pub fn unlisted_is_shown()
+    ensures { UnlistedIsShown }
 {}
 
-/// A name that no cloud has metadata of was never stored.
-pub fn unheld_rests()
-    ensures { UnheldRests }
+/// An unfinished step is settled on its second version.
+pub fn step_settles_on()
+    ensures { StepSettlesOn }
 {}
 
-/// Clouds don't contradict each other.
-pub fn top_is_one()
-    ensures { TopIsOne }
+/// While an entry stands as it was, no version is begun.
+pub fn not_begun()
+    ensures { NotBegun }
+{}
+
+/// At rest at what was settled, or at the version that a command makes, this is the entry after the command.
+pub fn at_rest_is_after()
+    ensures { AtRestIsAfter }
+{}
+
+/// Entries count by name alone.
+pub fn entries_agree()
+    ensures { EntriesAgree }
+{}
+
+/// At most two clouds are two numbers at most.
+pub fn two_at_most()
+    ensures { TwoAtMost }
 {}
 
 /// Nothing of another cloud or width stands in place of metadata.
@@ -71,21 +86,6 @@ pub fn none_misplaced()
 /// What is settled on is valid, and its chunks stand.
 pub fn settled_stands()
     ensures { SettledStands }
-{}
-
-/// Before its metadata is written, a new version isn't begun.
-pub fn unwritten_weighs()
-    ensures { UnwrittenWeighs }
-{}
-
-/// A command that has settled a name goes on from a version at rest.
-pub fn after_settling()
-    ensures { AfterSettling }
-{}
-
-/// Once its metadata is on all clouds, a new version rests.
-pub fn written_rests()
-    ensures { WrittenRests }
 {}
 
 /// Chunks in the free slot overwrite none that the version before has.
@@ -143,17 +143,12 @@ pub fn stays_at_rest()
     ensures { StaysAtRest }
 {}
 
-/// A command that has only settled its name has not begun its version.
-pub fn rests_before()
-    ensures { RestsBefore }
-{}
-
 /// Each image of a command's round of metadata stands.
 pub fn metas_written()
     ensures { MetasWritten }
 {}
 
-/// A command whose version rests is done.
-pub fn rests_done()
-    ensures { RestsDone }
+/// A command on a name at rest, at its old version or at its new one, leaves the entry that a command leaves.
+pub fn rests_after()
+    ensures { RestsAfter }
 {}

@@ -1,5 +1,0 @@
-use Rattle.nc_state.proofs.TopLaw.{top_is_settled}
-use Rattle.nc_state.proofs.laws.top_is_settled.Goals as goal
-
-pub returns : goal.returns
-returns c = top_is_settled
