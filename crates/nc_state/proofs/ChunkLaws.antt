@@ -3,7 +3,7 @@ use Rattle.std.proofs.Common.{◌≡◌, ◌≢◌, ◌<◌, ◌+◌, ◌*◌, �
 use Rattle.std.proofs.lemmas.Bool.Decides.{eqb_tells}
 use Rattle.std.proofs.lemmas.List.{get_or-set_other, get_or-set_same}
 use Rattle.sha2.specs.Sha256.{sha256}
-use Rattle.nc_native.specs.Native.{combination}
+use Rattle.nc_native.specs.Native.{chunk_size, combination}
 use Rattle.nc_code.specs.Parts.{CodeParts, PlanParts}
 use Rattle.nc_code.specs.Codes.{code_row}
 use Rattle.nc_code.proofs.RepairLemmas.{survivor_row}
@@ -15,11 +15,14 @@ use Rattle.nc_name.specs.declared.key.Key.TheVariants as key
 use Rattle.nc_state.specs.Clouds.{Clouds}
 use Rattle.nc_name.specs.Keys.{key_text}
 use Rattle.nc_frame.specs.Frames.{Sealed}
+use Rattle.nc_frame.proofs.Shapes.{same_parts, whole_of}
+use Rattle.nc_native.proofs.Pieces.{length-combination}
+use Rattle.nc_state.proofs.CloudSets.{not_false}
 use Rattle.nc_cloud.specs.Contents.{Contents}
 use Rattle.nc_state.specs.Versions.{Version}
 use Rattle.nc_state.specs.Versions.Version.{Never, Removed, Stored}
 use Rattle.nc_state.specs.Right.{IsChunk, IsRight, HasChunkAt, PlacesStand, RightOn, free_slot, free_slot_of, payload_at}
-use Rattle.nc_state.specs.Laws.{FreeSlotIsFree, MendedIsFree, MendedIsValid, MendedPlacesStand, RemovedPlacesStand, RightPlacesStand}
+use Rattle.nc_state.specs.ChunkLaws.{FreeSlotIsFree, MendedIsFree, MendedIsValid, MendedKeepsChunks, NewPlacesStand, NothingToBeRight, OnlyRightIsSealed, RightIsMarked, WrongIsDamaged}
 
 differs : (slot : ℕ) → (if slot == 0 then 1 else 0) ≡ slot → ⊥
 differs slot e =
@@ -46,47 +49,34 @@ right_chunk n F x c place bytes r is =
     let same : r.bytes ≡ bytes = cc in
     subst (IsChunk n x c place) same r.is_chunk
 
-pub right_places_stand : RightPlacesStand
-right_places_stand n F D name y right = record {
-  sound = λ c place bytes l names is whole. right_chunk n F y c place bytes (right c l place names) is;
-  right = λ c place l out names. right c l place names;
-}
-
 removed_names : (name : List ℕ) (generation c : ℕ) (place : Key) → HasChunkAt name (Removed generation) c place → ⊥
 removed_names name generation c (key.Meta other slot) names = names
 removed_names name generation c (key.Chunk other slot row) names = names
 
-pub removed_places_stand : RemovedPlacesStand
-removed_places_stand n F D name generation = right_places_stand n F D name (Removed generation) (λ c l place names. absurd (removed_names name generation c place names))
+never_names : (name : List ℕ) (c : ℕ) (place : Key) → HasChunkAt name Never c place → ⊥
+never_names name c (key.Meta other slot) names = names
+never_names name c (key.Chunk other slot row) names = names
+
+pub nothing_to_be_right : NothingToBeRight
+nothing_to_be_right n F name c = (λ place has. absurd (never_names name c place has), λ generation place has. absurd (removed_names name generation c place has))
 
 -- a chunk of one version is that of another with the same payload
 as_chunk : (n : ℕ) (x y : Version) (c : ℕ) (place : Key) (bytes : List ℕ) → payload_at n y c place ≡ payload_at n x c place → IsChunk n x c place bytes → IsChunk n y c place bytes
 as_chunk n x y c place bytes e is = subst (λ (p : List ℕ). Sealed bytes c n (key_text place) p) (sym e) is
 
--- a version that has the chunks of another on all clouds but one
-others_stand : (n i : ℕ) (F : Contents) (D : Clouds) (name : List ℕ) (x y : Version)
-    → ((c : ℕ) (place : Key) → c ≢ i → HasChunkAt name y c place → HasChunkAt name x c place × (payload_at n y c place ≡ payload_at n x c place))
-    → RightOn n F name y i → PlacesStand n F D name x → PlacesStand n F D name y
-others_stand n i F D name x y others mended p = record {
-  sound = λ c place bytes l names is whole.
-      elim (eqb_tells c i) [
-        | inl here ↦
-            let there : HasChunkAt name y i place = subst (λ (k : ℕ). HasChunkAt name y k place) here.1 names in
-            let at : F i place ≡ Some bytes = subst (λ (k : ℕ). F k place ≡ Some bytes) here.1 is in
-            subst (λ (k : ℕ). IsChunk n y k place bytes) (sym here.1) (right_chunk n F y i place bytes (mended place there) at)
-        | inr other ↦
-            let old = others c place other.1 names in
-            as_chunk n x y c place bytes old.1 (p.sound c place bytes l old.0 is whole)
+pub new_places_stand : NewPlacesStand
+new_places_stand n F D name x y p each = record {
+  sound = λ c place bytes l has is whole.
+      elim (each c l) [
+        | inl right ↦ right_chunk n F y c place bytes (right place has) is
+        | inr old ↦ as_chunk n x y c place bytes (old place has).1 (p.sound c place bytes l (old place has).0 is whole)
       ];
-  right = λ c place l out names.
-      elim (eqb_tells c i) [
-        | inl here ↦
-            let there : HasChunkAt name y i place = subst (λ (k : ℕ). HasChunkAt name y k place) here.1 names in
-            subst (λ (k : ℕ). IsRight n F y k place) (sym here.1) (mended place there)
-        | inr other ↦
-            let old = others c place other.1 names in
-            let r = p.right c place l out old.0 in
-            record { bytes = r.bytes; stands = r.stands; is_chunk = as_chunk n x y c place r.bytes old.1 r.is_chunk }
+  right = λ c place l out has.
+      elim (each c l) [
+        | inl right ↦ right place has
+        | inr old ↦
+            let r = p.right c place l out (old place has).0 in
+            record { bytes = r.bytes; stands = r.stands; is_chunk = as_chunk n x y c place r.bytes (old place has).1 r.is_chunk }
       ];
 }
 
@@ -107,8 +97,8 @@ module _ (n i : ℕ) (name : List ℕ) (plan : PlanParts) (old m : Live) (v : Li
   mark_stays : (c r : ℕ) → c ≢ i → r < 2 → slice_index_or m.marks (2 * c + r) [] ≡ slice_index_or old.marks (2 * c + r) []
   mark_stays c r other l = is.marks (2 * c + r) (omega arith) (omega arith)
 
-pub mended_places_stand : MendedPlacesStand
-mended_places_stand n i F D name plan old m v is right p = others_stand n i F D name (Stored old v) (Stored m v) (chunk_stays n i name plan old m v is) right p
+pub mended_keeps_chunks : MendedKeepsChunks
+mended_keeps_chunks n i name plan old m v c place is differs has = chunk_stays n i name plan old m v is c place differs has
 
 pub mended_is_valid : MendedIsValid
 mended_is_valid n i plan old m v is stored mds witnesses digests valid = record {
@@ -130,3 +120,18 @@ pub mended_is_free : MendedIsFree
 mended_is_free n i plan old m v is fits narrow l =
     let within : i < length old.slots = omega (arith, fits.slot_count) in
     ap (λ (s : List ℕ). slice_index s i) is.slots ∙ get_or-set_same old.slots i (free_slot (meta.Live old) i) 0 within
+
+-- ---- right chunks, and marks
+
+pub only_right_is_sealed : OnlyRightIsSealed
+only_right_is_sealed n F D name x c place bytes payload stand l has is other =
+    (same_parts bytes c c n n _ _ _ _ other (stand.sound c place bytes l has is (whole_of bytes c n _ _ other))).payload
+
+pub right_is_marked : RightIsMarked
+right_is_marked n name m v c slot row valid l pair = (
+  length-combination (code_row m.code c row) v n ∙ ap (λ (k : ℕ). chunk_size k n) (sym valid.len),
+  sym (valid.marks c row l pair),
+)
+
+pub wrong_is_damaged : WrongIsDamaged
+wrong_is_damaged n F D name x c place stand l has wrong = not_false (D c) (λ out. wrong (stand.right c place l out has))

@@ -1,5 +1,5 @@
 -- Tests on sets of clouds.
-use Rattle.std.proofs.Common.{◌≡◌, ◌≢◌, ◌<◌, ◌≤◌, ◌+◌, ◌&&◌, ◌||◌, ℕ, zero, suc, Bool, true, false, if◌then◌else◌, inl, inr, refl, sym, ◌∙◌, subst, arith}
+use Rattle.std.proofs.Common.{◌≡◌, ◌≢◌, ◌<◌, ◌≤◌, ◌+◌, ◌&&◌, ◌||◌, ℕ, zero, suc, Bool, true, false, if◌then◌else◌, inl, inr, refl, sym, ap, ◌∙◌, subst, arith}
 use Rattle.std.specs.Bool.{Decides}
 use Rattle.std.proofs.lemmas.Bool.Decides.{Decides-below_and, Decides-below_or, eqb_tells}
 use Rattle.nc_state.specs.Clouds.{Clouds, all_of, any_of, count_of}
@@ -54,6 +54,10 @@ or_false false b e = (refl, e)
 pub true_not_false : (b : Bool) → b ≡ true → b ≡ false → ⊥
 true_not_false b is not_so = let e : true ≡ false = sym is ∙ not_so in cc
 
+pub not_false : (b : Bool) → (b ≡ false → ⊥) → b ≡ true
+not_false true wrong = refl
+not_false false wrong = absurd (wrong refl)
+
 -- ---- at most so many
 
 -- what holds of those below n, and of n, holds of those up to n
@@ -99,3 +103,9 @@ two_step n D false is few rest =
 pub two_at_most : TwoAtMost
 two_at_most zero D few = (0, 0, λ c l. absurd (omega arith))
 two_at_most (suc n) D few = two_step n D (D n) refl few (two_at_most n D)
+
+-- the same test on all clouds
+pub any_same : (n : ℕ) (D E : Clouds) → ((c : ℕ) → c < n → D c ≡ E c) → any_of n D ≡ any_of n E
+any_same zero D E same = refl
+any_same (suc n) D E same =
+    ap (λ (b : Bool). b || any_of n D) (same n (omega arith)) ∙ ap (λ (b : Bool). E n || b) (any_same n D E (λ c l. same c (omega (arith, l))))

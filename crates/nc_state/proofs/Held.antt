@@ -13,7 +13,7 @@ use Rattle.nc_meta.proofs.OneSpelling.{one_spelling}
 use Rattle.nc_cloud.specs.Contents.{Contents}
 use Rattle.nc_state.specs.Versions.{Version, IsValid, meta_of}
 use Rattle.nc_state.specs.Versions.Version.{Never, Removed, Stored}
-use Rattle.nc_state.specs.Laws.{HeldIsSealed}
+use Rattle.nc_state.specs.Laws.{HeldIsSealed, SealedIsObject}
 use Rattle.nc_state.specs.Holding.{Holds, HoldsIfAny, HoldsVersion, holds, holds_meta, is_object, meta_key, meta_object}
 
 object_is : (n : ℕ) (name : List ℕ) (c : ℕ) (m : Meta) → meta_object n name c m ≡ frame c n (key_text (meta_key name m)) (spelling n m)
@@ -72,6 +72,10 @@ holds_meta-Decides n F name (Some m) fits c =
 pub holds-Decides : (n : ℕ) (F : Contents) (name : List ℕ) (x : Version) → IsValid n x → (c : ℕ) → Decides (holds n F name x c) (HoldsVersion n F name c x)
 holds-Decides n F name x valid c = holds_meta-Decides n F name (meta_of x) (meta_valid n x valid) c
 
+pub sealed_is_object : SealedIsObject
+sealed_is_object n name c m bytes payload spells is =
+    is.is_frame ∙ ap (λ (p : List ℕ). frame c n (key_text (meta_key name m)) p) (payload_is n payload m spells) ∙ sym (object_is n name c m)
+
 -- to hold a meta is to hold its sealed payload
 pub held_is_sealed : HeldIsSealed
 held_is_sealed n F name c m wide narrow is l = (
@@ -83,7 +87,5 @@ held_is_sealed n F name c m wide narrow is l = (
     spells = spells_itself n m h.is_meta;
   },
   λ s.
-      let e : s.payload ≡ spelling n m = payload_is n s.payload m s.spells in
-      let here : s.bytes ≡ meta_object n name c m = s.is_sealed.is_frame ∙ ap (λ (p : List ℕ). frame c n (key_text (meta_key name m)) p) e ∙ sym (object_is n name c m) in
-      record { is_meta = is_meta n s.payload m s.spells; stands = s.stands ∙ ap Some here },
+      record { is_meta = is_meta n s.payload m s.spells; stands = s.stands ∙ ap Some (sealed_is_object n name c m s.bytes s.payload s.spells s.is_sealed) },
 )

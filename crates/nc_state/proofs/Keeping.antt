@@ -1,5 +1,5 @@
 -- What keeps an entry when contents change.
-use Rattle.std.proofs.Common.{◌≡◌, ◌<◌, ◌≤◌, ℕ, false, Option, None, Some, List, refl, sym, ◌∙◌}
+use Rattle.std.proofs.Common.{◌≡◌, ◌<◌, ◌≤◌, ℕ, Bool, false, if◌then◌else◌, Option, None, Some, List, refl, sym, ap, ◌∙◌}
 use Rattle.nc_name.specs.declared.key.Key.{Key}
 use Rattle.nc_name.specs.declared.key.Key.TheVariants as key
 use Rattle.nc_name.specs.Keys.{name_of}
@@ -10,7 +10,10 @@ use Rattle.nc_cloud.specs.Contents.{Contents}
 use Rattle.nc_state.specs.Clouds.{Clouds}
 use Rattle.nc_state.specs.Versions.{Version, meta_of}
 use Rattle.nc_state.specs.Versions.Version.{Never, Removed, Stored}
-use Rattle.nc_state.specs.Holding.{HeldOutside, Holds, HoldsIfAny, meta_key}
+use Rattle.nc_state.specs.Holding.{HeldOutside, Holds, HoldsIfAny, holds, holds_meta, is_object, meta_key, meta_object}
+use Rattle.nc_state.specs.Weighing.{settled}
+use Rattle.nc_state.specs.ChunkLaws.{SameAt, UntouchedStays}
+use Rattle.nc_state.proofs.CloudSets.{any_same}
 use Rattle.nc_state.specs.Right.{HasChunkAt, PlacesStand}
 use Rattle.nc_state.specs.Entries.{Rests, Between, Entry, HasEntry}
 use Rattle.nc_state.specs.Entries.Entry.{Rest, Opened}
@@ -99,9 +102,6 @@ module _ (n : ℕ) (F G : Contents) (D E : Clouds) (name : List ℕ) (s : Shrink
 
 -- ---- a name whose objects are as they were
 
-abbrev pub SameAt : ℕ → Contents → Contents → List ℕ → Type 0
-SameAt n F G name = (c : ℕ) (place : Key) → c < n → name_of place ≡ name → G c place ≡ F c place
-
 same_shrinks : (n : ℕ) (F G : Contents) (D : Clouds) (name : List ℕ) → SameAt n F G name → Shrinks n F G D D name
 same_shrinks n F G D name same = record {
   fewer = λ c e. e;
@@ -121,3 +121,19 @@ same_entry n F G D name (Opened x y) wide narrow is same o = record {
     λ h. o.some_not.3 (holds_same n G F name o.some_not.0 (meta_of y) (λ k e. sym (same o.some_not.0 (meta_key name k) o.some_not.1 refl)) h),
   );
 }
+
+holds_meta_same : (n : ℕ) (F G : Contents) (name : List ℕ) (m : Option Meta) (c : ℕ) → c < n → SameAt n F G name → holds_meta n G name m c ≡ holds_meta n F name m c
+holds_meta_same n F G name None c l same = refl
+holds_meta_same n F G name (Some m) c l same = ap (λ (held : Option (List ℕ)). is_object held (meta_object n name c m)) (same c (meta_key name m) l refl)
+
+settled_same : (n : ℕ) (F G : Contents) (name : List ℕ) (e : Entry) → SameAt n F G name → settled n G name e ≡ settled n F name e
+settled_same n F G name (Rest x) same = refl
+settled_same n F G name (Opened x y) same =
+    ap (λ (b : Bool). if b then y else x) (any_same n (holds n G name y) (holds n F name y) (λ c l. holds_meta_same n F G name (meta_of y) c l same))
+
+pub untouched_stays : UntouchedStays
+untouched_stays n F G name same = (
+  λ E x stand. shrunk_places n F G E E name (same_shrinks n F G E name same) x stand,
+  λ c x l held. holds_same n F G name c (meta_of x) (λ k e. same c (meta_key name k) l refl) held,
+  λ e. settled_same n F G name e same,
+)

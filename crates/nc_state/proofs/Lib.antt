@@ -9,7 +9,7 @@ pub mod Rounds
 pub mod RestingLaw
 pub mod MetaWrites
 pub mod MetaLaws
-pub mod TopLaw
+pub mod MisplacedLaw
 pub mod ShownLaw
 pub mod Images
 pub mod AfterLaws

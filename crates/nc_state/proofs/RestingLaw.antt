@@ -11,12 +11,14 @@ use Rattle.nc_meta.specs.Metas.{generation_of}
 use Rattle.nc_cloud.specs.Contents.{Contents}
 use Rattle.nc_state.specs.Clouds.{Clouds}
 use Rattle.nc_state.specs.Versions.{Version, meta_of}
-use Rattle.nc_state.specs.Holding.{HoldsVersion, meta_key}
+use Rattle.nc_state.specs.Holding.{AllHold, HoldsVersion, meta_key}
+use Rattle.nc_state.specs.Standing.{Entries, Stands}
+use Rattle.nc_state.specs.Entries.Entry.{Rest}
 use Rattle.nc_state.specs.Right.{IsChunk, HasChunkAt, PlacesStand}
 use Rattle.nc_state.specs.Entries.{HasEntry, Rests}
 use Rattle.nc_state.specs.Rounds.{IsChunkOf, IsImage, LeavesAtRest}
 use Rattle.nc_state.specs.Rounds.LeavesAtRest.{free, right, erased}
-use Rattle.nc_state.specs.Laws.{RestingRoundKeeps}
+use Rattle.nc_state.specs.ChunkLaws.{ChunksStay}
 use Rattle.nc_state.proofs.CloudSets.{true_not_false}
 use Rattle.nc_state.proofs.Wholes.{image_either, image_same, image_whole}
 use Rattle.nc_state.proofs.Held.{object_whole}
@@ -78,7 +80,7 @@ module _ (n : ℕ) (F G : Contents) (D : Clouds) (name : List ℕ) (x : Version)
   not_touched c place new out names (right r) = true_not_false (D c) r.damaged out
   not_touched c place new out names (erased e) = no_chunk name x c place name e.slot e.at names
 
-  places_still : PlacesStand n F D name x → PlacesStand n G D name x
+  pub places_still : PlacesStand n F D name x → PlacesStand n G D name x
   places_still p = record {
     sound = λ c place bytes l names is whole.
         elim (image_whole image c place bytes l is whole) [
@@ -98,7 +100,10 @@ module _ (n : ℕ) (F G : Contents) (D : Clouds) (name : List ℕ) (x : Version)
   writes_whole c place bytes l (right r) = let e : r.bytes ≡ bytes = (let w = r.writes in cc) in subst Whole e (whole_of _ _ _ _ _ r.is_chunk)
   writes_whole c place bytes l (erased e) = absurd (let wrong = e.erases in cc)
 
-pub resting_round_keeps : RestingRoundKeeps
+-- writes of chunks that aren't live, of right chunks on damaged clouds, and erasures of what isn't live keep what stands
+pub resting_round_keeps : (n : ℕ) (F G : Contents) (S : Entries) (D : Clouds) (name : List ℕ) (x : Version)
+    → IsName name → Stands n F S D → S name ≡ Rest x → IsImage n (LeavesAtRest n D name x) F G
+    → Stands n G S D × (AllHold n F name x → AllHold n G name x)
 resting_round_keeps n F G S D name x is stands rests image = (
   record {
     wide = stands.wide;
@@ -113,3 +118,6 @@ resting_round_keeps n F G S D name x is stands rests image = (
   },
   λ held c l. still_held n F G D name x image c l (held c l),
 )
+
+pub chunks_stay : ChunksStay
+chunks_stay n F G E name x image stand = places_still n F G E name x image stand

@@ -11,7 +11,8 @@ use Rattle.nc_state.specs.Entries.{Entry, HasEntry}
 use Rattle.nc_state.specs.Standing.{Entries, Stands, with_entry}
 use Rattle.nc_state.specs.Rounds.{IsImage, Touching}
 use Rattle.nc_state.proofs.Wholes.{image_same}
-use Rattle.nc_state.proofs.Keeping.{SameAt, same_entry}
+use Rattle.nc_state.specs.ChunkLaws.{SameAt}
+use Rattle.nc_state.proofs.Keeping.{same_entry}
 
 -- the round touches places of this name alone
 abbrev pub IsOfName : Touching → List ℕ → Type 0

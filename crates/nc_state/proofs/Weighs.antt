@@ -9,7 +9,7 @@ use Rattle.nc_state.specs.Holding.{AllHold, HeldOutside, HoldsIfAny, HoldsVersio
 use Rattle.nc_state.specs.Entries.{Between, IsOpen, Entry, HasEntry}
 use Rattle.nc_state.specs.Entries.Entry.{Rest, Opened}
 use Rattle.nc_state.specs.Weighing.{after, all_outside_hold, settled, some_holds, weigh}
-use Rattle.nc_state.specs.Laws.{StepSettlesOn, WeighsItself}
+use Rattle.nc_state.specs.Laws.{StepSettlesOn}
 use Rattle.nc_state.proofs.CloudSets.{all_here, all_there, any_here, any_there, not_all, or_false, or_true, some_outside, true_not_false}
 use Rattle.nc_state.proofs.Held.{holds-Decides}
 
@@ -81,7 +81,8 @@ weigh_by : (n : ℕ) (G : Contents) (E : Clouds) (name : List ℕ) (x y : Versio
 weigh_by n G E name x y some all is_some is_all =
     ap (λ (b : Bool). choice b (all_outside_hold n G E name y) x y) is_some ∙ ap (λ (b : Bool). choice some b x y) is_all
 
-pub weighs_itself : WeighsItself
+-- an entry weighs itself while nothing changes
+pub weighs_itself : (n : ℕ) (F : Contents) (D : Clouds) (name : List ℕ) (e : Entry) → HasEntry n F D name e → weigh n F D name e ≡ e
 weighs_itself n F D name (Rest x) r = refl
 weighs_itself n F D name (Opened x y) o = weigh_by n F D name x y true false (open_some n F D name x y o) (open_not n F D name x y o)
 

@@ -9,15 +9,16 @@ use Rattle.nc_meta.specs.declared.meta.Live.{Live}
 use Rattle.nc_name.specs.declared.key.Key.{Key}
 use Rattle.nc_name.specs.declared.key.Key.TheVariants as key
 use Rattle.nc_name.specs.Names.{IsName}
+use Rattle.nc_name.specs.Keys.{key_text}
 use Rattle.nc_frame.specs.Frames.{Sealed}
 use Rattle.nc_meta.specs.declared.meta.Meta.{Meta}
-use Rattle.nc_meta.specs.Metas.{IsLive, generation_of}
+use Rattle.nc_meta.specs.Metas.{Spells, IsLive, generation_of}
 use Rattle.nc_cloud.specs.Contents.{Contents, Write, nothing}
 use Rattle.nc_cloud.specs.Images.{Image}
 use Rattle.nc_state.specs.Clouds.{Clouds, count_of, no_cloud, with_cloud, without_cloud}
 use Rattle.nc_state.specs.Versions.Version.{Never, Removed, Stored}
 use Rattle.nc_state.specs.Versions.{Version, IsValid, meta_of, version_generation}
-use Rattle.nc_state.specs.Holding.{AllHold, Holds, HoldsSealed}
+use Rattle.nc_state.specs.Holding.{AllHold, Holds, HoldsSealed, meta_key, meta_object}
 use Rattle.nc_state.specs.Right.{HasChunkAt, PlacesStand, RightOn, free_slot_of}
 use Rattle.nc_state.specs.Entries.{Entry, HasEntry, Rests}
 use Rattle.nc_state.specs.Entries.Entry.{Rest, Opened}
@@ -37,6 +38,11 @@ EmptyStands = (n : ℕ) → 4 ≤ n → n ≤ 10 → Stands n nothing no_entry n
 abbrev pub HeldIsSealed : Type 0
 HeldIsSealed = (n : ℕ) (F : Contents) (name : List ℕ) (c : ℕ) (m : Meta) → 4 ≤ n → n ≤ 10 → IsName name → c < n → Holds n F name c m ↔ HoldsSealed n F name c m
 
+-- what is sealed under the key of a meta, with its payload, is the object of the meta
+abbrev pub SealedIsObject : Type 0
+SealedIsObject = (n : ℕ) (name : List ℕ) (c : ℕ) (m : Meta) (bytes payload : List ℕ)
+    → Spells n payload m → Sealed bytes c n (key_text (meta_key name m)) payload → bytes ≡ meta_object n name c m
+
 -- what a round, or a stop within it, leaves is an image of its entries
 abbrev pub RoundIsImage : Type 0
 RoundIsImage = (n : ℕ) (ps : List Write) (F G : Contents) → Image ps F G → IsImage n (IsEntry ps) F G
@@ -46,30 +52,7 @@ abbrev pub LossKeeps : Type 0
 LossKeeps = (n lost : ℕ) (F G : Contents) (S : Entries) (D : Clouds) → Stands n F S D → Loses lost F G → count_of n (with_cloud D lost) ≤ 2
     → Stands n G (weighed n G (with_cloud D lost) S) (with_cloud D lost)
 
--- writes of chunks that aren't live, of right chunks on damaged clouds, and erasures of what isn't live keep what stands
-abbrev pub RestingRoundKeeps : Type 0
-RestingRoundKeeps = (n : ℕ) (F G : Contents) (S : Entries) (D : Clouds) (name : List ℕ) (x : Version)
-    → IsName name → Stands n F S D → S name ≡ Rest x → IsImage n (LeavesAtRest n D name x) F G
-    → Stands n G S D × (AllHold n F name x → AllHold n G name x)
-
--- writes of the settled meta where it is missing keep what stands, and the entry is weighed anew
-abbrev pub SettleRoundKeeps : Type 0
-SettleRoundKeeps = (n : ℕ) (F G : Contents) (S : Entries) (D : Clouds) (name : List ℕ) (m : Meta)
-    → IsName name → Stands n F S D → meta_of (settled n F name (S name)) ≡ Some m → IsImage n (WritesMissing n F name m) F G
-    → Stands n G (with_entry S name (weigh n G D name (S name))) D
-
--- writes of the metas of the next version, once its chunks stand, keep what stands; the entry is the one after a command that
--- would make this version, and clouds that hold the old meta still do
-abbrev pub MetaRoundKeeps : Type 0
-MetaRoundKeeps = (n : ℕ) (F G : Contents) (S : Entries) (D : Clouds) (name : List ℕ) (x y : Version) (m : Meta)
-    → IsName name → Stands n F S D → S name ≡ Rest x
-    → meta_of y ≡ Some m → version_generation y ≡ version_generation x + 1 → IsValid n y → PlacesStand n F D name y
-    → IsImage n (WritesMeta n name m) F G
-    → Stands n G (with_entry S name (after n F G D name (S name) (Some y))) D × (AllHold n F name x → AllHold n G name x)
-
--- an entry weighs itself while nothing changes
-abbrev pub WeighsItself : Type 0
-WeighsItself = (n : ℕ) (F : Contents) (D : Clouds) (name : List ℕ) (e : Entry) → HasEntry n F D name e → weigh n F D name e ≡ e
+-- ---- what is seen
 
 -- while damaged and failing clouds are at most two together, what is seen is shown
 abbrev pub SeenIsShown : Type 0
@@ -85,11 +68,6 @@ UnlistedIsShown = (n : ℕ) (F : Contents) (S : Entries) (D X : Clouds) (name : 
 abbrev pub NoneMisplaced : Type 0
 NoneMisplaced = (n : ℕ) (F : Contents) (S : Entries) (D : Clouds) (name : List ℕ) (c slot a w : ℕ) (bytes text payload : List ℕ)
     → IsName name → Stands n F S D → c < n → F c (key.Meta name slot) ≡ Some bytes → Sealed bytes a w text payload → (a ≡ c) × (w ≡ n)
-
--- the settled version is valid, and its places stand
-abbrev pub SettledStands : Type 0
-SettledStands = (n : ℕ) (F : Contents) (S : Entries) (D : Clouds) (name : List ℕ)
-    → IsName name → Stands n F S D → IsValid n (settled n F name (S name)) × PlacesStand n F D name (settled n F name (S name))
 
 -- ---- entries, and the entry after a command
 
@@ -115,38 +93,6 @@ EntriesAgree = (n : ℕ) (F : Contents) (S T : Entries) (D : Clouds) → Stands 
 -- at most two clouds are damaged: two numbers, outside which none is
 abbrev pub TwoAtMost : Type 0
 TwoAtMost = (n : ℕ) (D : Clouds) → count_of n D ≤ 2 → (a b : ℕ) × ((c : ℕ) → c < n → c ≢ a → c ≢ b → D c ≡ false)
-
--- ---- the chunks of a version
-
--- a version whose chunks on a cloud are in the free slot has no place there that the one before has
-abbrev pub FreeSlotIsFree : Type 0
-FreeSlotIsFree = (name : List ℕ) (x : Version) (m : Live) (v : List ℕ) (c : ℕ) (place : Key)
-    → slice_index m.slots c ≡ free_slot_of x c → HasChunkAt name (Stored m v) c place → HasChunkAt name x c place → ⊥
-
--- the places of a version stand once they are right on all clouds
-abbrev pub RightPlacesStand : Type 0
-RightPlacesStand = (n : ℕ) (F : Contents) (D : Clouds) (name : List ℕ) (y : Version) → ((c : ℕ) → c < n → RightOn n F name y c) → PlacesStand n F D name y
-
--- a removed file has none
-abbrev pub RemovedPlacesStand : Type 0
-RemovedPlacesStand = (n : ℕ) (F : Contents) (D : Clouds) (name : List ℕ) (generation : ℕ) → PlacesStand n F D name (Removed generation)
-
--- those of a repaired version stand once they are right on the repaired cloud, where those of the version before stand
-abbrev pub MendedPlacesStand : Type 0
-MendedPlacesStand = (n i : ℕ) (F : Contents) (D : Clouds) (name : List ℕ) (plan : PlanParts) (old m : Live) (v : List ℕ)
-    → IsMended i plan old m → RightOn n F name (Stored m v) i → PlacesStand n F D name (Stored old v) → PlacesStand n F D name (Stored m v)
-
--- on the repaired cloud they are in the free slot
-abbrev pub MendedIsFree : Type 0
-MendedIsFree = (n i : ℕ) (plan : PlanParts) (old m : Live) (v : List ℕ)
-    → IsMended i plan old m → IsLive n old → n ≤ 10 → i < n → slice_index m.slots i ≡ free_slot_of (Stored old v) i
-
--- a repaired version is valid where its code and its plans are good, and the marks of the repaired cloud are the digests
-abbrev pub MendedIsValid : Type 0
-MendedIsValid = (n i : ℕ) (plan : PlanParts) (old m : Live) (v : List ℕ)
-    → IsMended i plan old m → IsLive n m → IsMds m.code → IfSome m.witnesses (λ w. (lost : ℕ) → lost < n → IsWitness m.code lost (plan_of w lost))
-    → ((r : ℕ) → r < 2 → slice_index_or m.marks (2 * i + r) [] ≡ sha256 (combination (code_row m.code i r) v n))
-    → IsValid n (Stored old v) → IsValid n (Stored m v)
 
 -- ---- whole vaults
 

@@ -10,4 +10,5 @@ pub mod Losses
 pub mod Rounds
 pub mod Mending
 pub mod Laws
+pub mod ChunkLaws
 pub mod Commands

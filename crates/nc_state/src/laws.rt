@@ -1,7 +1,8 @@
 //! Laws of what stands. Each function does nothing; its contract is the law.
 
+ghost use Rattle.nc_state.specs.ChunkLaws.{ChunksStay, FreeSlotIsFree, MendedIsFree, MendedIsValid, MendedKeepsChunks, MetasKeepChunks, NewPlacesStand, NothingToBeRight, OnlyRightIsSealed, RightIsMarked, UntouchedStays, WrongIsDamaged};
 ghost use Rattle.nc_state.specs.Commands.{MetasWritten, NothingToSettle, RestsAfter, Settling, StaysAtRest};
-ghost use Rattle.nc_state.specs.Laws.{AtRestIsAfter, EmptyStands, EntriesAgree, FreeSlotIsFree, HealedStands, HeldIsSealed, LossKeeps, MendedIsFree, MendedIsValid, MendedPlacesStand, MetaRoundKeeps, NoneMisplaced, NotBegun, RemovedPlacesStand, RestingRoundKeeps, RightPlacesStand, RoundIsImage, SeenIsShown, SettleRoundKeeps, SettledStands, StepSettlesOn, TwoAtMost, UnlistedIsShown, UnlistedRests, WeighsItself};
+ghost use Rattle.nc_state.specs.Laws.{AtRestIsAfter, EmptyStands, EntriesAgree, HealedStands, HeldIsSealed, LossKeeps, NoneMisplaced, NotBegun, RoundIsImage, SealedIsObject, SeenIsShown, StepSettlesOn, TwoAtMost, UnlistedIsShown, UnlistedRests};
 
 /// Clouds without objects stand for no names.
 pub fn empty_stands()
@@ -21,26 +22,6 @@ pub fn round_is_image()
 /// A vault of which at most two clouds are damaged stands, whatever the last loss left of its cloud.
 pub fn loss_keeps()
     ensures { LossKeeps }
-{}
-
-/// Writes of chunks that no live version names, of the right chunks on damaged clouds, and erasures of what isn't live.
-pub fn resting_round_keeps()
-    ensures { RestingRoundKeeps }
-{}
-
-/// Writes of metadata that was settled on.
-pub fn settle_round_keeps()
-    ensures { SettleRoundKeeps }
-{}
-
-/// Writes of the metadata of the next version.
-pub fn meta_round_keeps()
-    ensures { MetaRoundKeeps }
-{}
-
-/// Weighing changes no entry of a vault that stands.
-pub fn weighs_itself()
-    ensures { WeighsItself }
 {}
 
 /// What the clouds that answered show of a name is what its entry shows.
@@ -83,29 +64,9 @@ pub fn none_misplaced()
     ensures { NoneMisplaced }
 {}
 
-/// What is settled on is valid, and its chunks stand.
-pub fn settled_stands()
-    ensures { SettledStands }
-{}
-
 /// Chunks in the free slot overwrite none that the version before has.
 pub fn free_slot_is_free()
     ensures { FreeSlotIsFree }
-{}
-
-/// The chunks of a version stand where each is right.
-pub fn right_places_stand()
-    ensures { RightPlacesStand }
-{}
-
-/// The chunks of a repaired version stand where those of the lost cloud are right, and the others stood.
-pub fn mended_places_stand()
-    ensures { MendedPlacesStand }
-{}
-
-/// A removed file has no chunks.
-pub fn removed_places_stand()
-    ensures { RemovedPlacesStand }
 {}
 
 /// The new chunks of a repaired cloud overwrite no live ones.
@@ -151,4 +112,54 @@ pub fn metas_written()
 /// A command on a name at rest, at its old version or at its new one, leaves the entry that a command leaves.
 pub fn rests_after()
     ensures { RestsAfter }
+{}
+
+/// What is sealed under the key of metadata, with its payload, is the object of this metadata.
+pub fn sealed_is_object()
+    ensures { SealedIsObject }
+{}
+
+/// Chunks of a version at rest stay through rounds of other chunks and through tidying.
+pub fn chunks_stay()
+    ensures { ChunksStay }
+{}
+
+/// Chunks of every name stay through a round of metadata.
+pub fn metas_keep_chunks()
+    ensures { MetasKeepChunks }
+{}
+
+/// A name whose objects are as they were stands for what it stood for.
+pub fn untouched_stays()
+    ensures { UntouchedStays }
+{}
+
+/// Chunks of a new version stand where they are right, or are those of the version before.
+pub fn new_places_stand()
+    ensures { NewPlacesStand }
+{}
+
+/// Of a name without a file no chunk has to be right.
+pub fn nothing_to_be_right()
+    ensures { NothingToBeRight }
+{}
+
+/// A repair keeps the chunks of all other clouds.
+pub fn mended_keeps_chunks()
+    ensures { MendedKeepsChunks }
+{}
+
+/// Where chunks stand, nothing else is sealed in their places.
+pub fn only_right_is_sealed()
+    ensures { OnlyRightIsSealed }
+{}
+
+/// A right chunk has the size and the digest that the metadata tells.
+pub fn right_is_marked()
+    ensures { RightIsMarked }
+{}
+
+/// Where a chunk isn't right, its cloud is damaged.
+pub fn wrong_is_damaged()
+    ensures { WrongIsDamaged }
 {}

@@ -1,4 +1,4 @@
-use Rattle.nc_state.proofs.TopLaw.{none_misplaced}
+use Rattle.nc_state.proofs.MisplacedLaw.{none_misplaced}
 use Rattle.nc_state.proofs.laws.none_misplaced.Goals as goal
 
 pub returns : goal.returns

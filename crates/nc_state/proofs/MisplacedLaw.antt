@@ -1,4 +1,4 @@
--- What is settled on stands, and nothing is misplaced.
+-- Nothing is misplaced.
 use Rattle.std.proofs.Common.{◌≡◌, ◌<◌, ◌≤◌, ℕ, Option, None, Some, List, refl, sym, ap, ◌∙◌, subst, arith}
 use Rattle.std.specs.Option.{option_map_or}
 use Rattle.nc_meta.specs.declared.meta.Meta.{Meta}
@@ -15,7 +15,7 @@ use Rattle.nc_name.specs.Keys.{key_text}
 use Rattle.nc_state.specs.Entries.{Entry, HasEntry}
 use Rattle.nc_state.specs.Entries.Entry.{Rest, Opened}
 use Rattle.nc_state.specs.Weighing.{settled}
-use Rattle.nc_state.specs.Laws.{NoneMisplaced, SettledStands}
+use Rattle.nc_state.specs.Laws.{NoneMisplaced}
 use Rattle.nc_state.proofs.CloudSets.{some_outside}
 use Rattle.nc_state.proofs.Weighs.{open_settled}
 
@@ -25,11 +25,3 @@ none_misplaced n F S D name c slot a w bytes text payload is stands l at other =
     let here = subst (λ (b : List ℕ). Sealed b c n (key_text (meta_key name there.0)) (spelling n there.0)) (sym there.3) (object_sealed n name c there.0 stands.wide stands.narrow is l there.1) in
     let same = same_parts bytes a c w n _ _ _ _ other here in
     (same.cloud, same.width)
-
-settled_entry_stands : (n : ℕ) (F : Contents) (D : Clouds) (name : List ℕ) (e : Entry) → HasEntry n F D name e → IsValid n (settled n F name e) × PlacesStand n F D name (settled n F name e)
-settled_entry_stands n F D name (Rest x) r = (r.valid, r.places)
-settled_entry_stands n F D name (Opened x y) o =
-    subst (λ (z : Version). IsValid n z × PlacesStand n F D name z) (sym (open_settled n F D name x y o)) (o.between.valid_new, o.between.places_new)
-
-pub settled_stands : SettledStands
-settled_stands n F S D name is stands = settled_entry_stands n F D name (S name) (stands.entries name is)
