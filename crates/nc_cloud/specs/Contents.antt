@@ -1,13 +1,10 @@
 -- What clouds hold, and what a round leaves.
-use Rattle.std.specs.Prelude.{ℕ, ◌≡◌, ◌≢◌, ◌+◌, ◌-◌, ◌^◌, ◌≤◌, ◌&&◌, Bool, true, false, Option, None, Some, List, [], ◌∷◌, min, nat_eq, if◌then◌else◌}
+use Rattle.std.specs.Prelude.{ℕ, ◌≡◌, ◌≢◌, ◌≤◌, ◌&&◌, Bool, true, false, Option, None, Some, List, [], ◌∷◌, nat_eq, if◌then◌else◌}
 use Rattle.std.specs.Str.{bytes_eq}
+pub use Rattle.nc_name.specs.Counts.{Rose}
 use Rattle.nc_name.specs.declared.key.Key.{Key}
 use Rattle.nc_name.specs.declared.key.Key.TheVariants.{Meta, Chunk}
 use Rattle.nc_frame.specs.Frames.{AreTorn}
-
--- a count has risen, or stands at its end
-abbrev pub Rose : ℕ → ℕ → Type 0
-Rose before now = min (before + 1) (2 ^ 64 - 1) ≤ now
 
 -- no count has fallen
 abbrev pub Grows : (ℕ → ℕ) → (ℕ → ℕ) → Type 0

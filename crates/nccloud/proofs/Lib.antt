@@ -1,4 +1,3 @@
-pub mod InputLemmas
 pub mod SealingLemmas
 pub mod StoreLaws
 pub mod MetaLemmas

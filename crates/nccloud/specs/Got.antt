@@ -10,7 +10,7 @@ use Rattle.nccloud.specs.declared.status.Fault.{Fault}
 use Rattle.nccloud.specs.declared.status.Fault.TheVariants as fault
 use Rattle.nccloud.specs.declared.status.Status.{Status}
 use Rattle.nccloud.specs.declared.status.Status.TheVariants.{Ok, Width, Usage, Name, TooLong, ReadFault, WriteFault, Vault}
-use Rattle.nccloud.specs.Output.{AppendsSome}
+use Rattle.nc_stream.specs.Output.{AppendsSome}
 
 -- why a file isn't given, by what the clouds hold
 abbrev pub GetRefuses : ℕ → List ℕ → Contents → Fault → Type 0

@@ -1,11 +1,8 @@
 pub mod Codes
-pub mod Counts
 pub mod Drawing
 pub mod FirstMeta
 pub mod Got
-pub mod Input
 pub mod Marks
-pub mod Output
 pub mod Refusals
 pub mod Run
 pub mod Seeing

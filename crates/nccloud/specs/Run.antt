@@ -9,7 +9,7 @@ use Rattle.nccloud.specs.declared.status.Fault.{Fault}
 use Rattle.nccloud.specs.declared.status.Fault.TheVariants as fault
 use Rattle.nccloud.specs.declared.status.Status.{Status}
 use Rattle.nccloud.specs.declared.status.Status.TheVariants.{Ok, Width, Usage, Name, TooLong, ReadFault, WriteFault, Vault}
-use Rattle.nccloud.specs.Input.{limit}
+use Rattle.nc_stream.specs.Input.{limit}
 use Rattle.nccloud.specs.Storing.{StoresFirst}
 use Rattle.nccloud.specs.Words.{IsCommandOf}
 

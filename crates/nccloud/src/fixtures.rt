@@ -3,12 +3,12 @@ ghost use Rattle.std.specs.Prelude.{◌≡◌, ◌<◌, IfOk};
 ghost use Rattle.nc_name.specs.Keys.{Slots};
 ghost use Rattle.nc_memory.specs.Memory.{width_of};
 
-use crate::memory::{MemSink, MemSource};
 use crate::run::run;
 use crate::status::{Fault, Status};
 use nc_cloud::Fleet;
 use nc_memory::MemFleet;
 use nc_name::{Blob, Key, Memory, Name};
+use nc_stream::{MemSink, MemSource};
 use std::alloc::Global;
 use std::test::Fail;
 use std::thread::Threads;

@@ -2,11 +2,11 @@
 
 use crate::fixtures::{failing_cloud, get_into, gives, mixed, put_bytes};
 use crate::folders;
-use crate::memory::MemSink;
 use crate::status::Status;
 use nc_cloud::{Fanned, Fleet};
 use nc_folder::FolderCloud;
 use nc_name::{Blob, Memory};
+use nc_stream::MemSink;
 use std::fs;
 use std::test::Fail;
 use std::thread::Threads;

@@ -5,13 +5,12 @@ ghost use Rattle.nccloud.specs.Got.{GetAnswers, GivesHeld, ReadsNoChunk};
 ghost use Rattle.nccloud.specs.Run.{IfVault, IsDone, IsGot, HasFaultCause, StaysClean};
 ghost use Rattle.nccloud.specs.Settings.{IsSetting};
 
-use crate::output::send;
 use crate::setting::Setting;
-use crate::sink::Sink;
 use crate::status::{Fault, Status};
 use nc_cloud::Fleet;
 use nc_download::fetch;
 use nc_name::Name;
+use nc_stream::{Sink, send};
 use std::alloc::Global;
 use std::thread::Threads;
 

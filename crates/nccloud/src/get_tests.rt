@@ -6,11 +6,11 @@ use crate::fixtures::{
     chunk, copy_cloud, copy_cut, copy_object, failing_cloud, get_into, gives, meta, misplaced,
     mixed, stored, without,
 };
-use crate::memory::MemSink;
 use crate::status::{Fault, Status};
-use nc_memory::{MemFleet, Torn};
 use nc_download::{Bad, How, Why};
+use nc_memory::{MemFleet, Torn};
 use nc_name::{Memory, Name};
+use nc_stream::MemSink;
 use std::alloc::Global;
 use std::test::Fail;
 use std::thread::Threads;

@@ -2,7 +2,6 @@
 #![tactic(auto)]
 
 mod drawing;
-mod failed;
 #[cfg(test)]
 mod fixtures;
 #[cfg(test)]
@@ -10,10 +9,7 @@ mod folder_tests;
 mod get;
 #[cfg(test)]
 mod get_tests;
-mod input;
 mod marks;
-mod memory;
-mod output;
 #[cfg(test)]
 mod planted_tests;
 mod prepare;
@@ -23,22 +19,17 @@ mod put_tests;
 mod run;
 mod sealing;
 mod setting;
-mod sink;
-mod source;
 mod status;
-#[cfg(test)]
-mod stream_tests;
 #[cfg(test)]
 mod word_tests;
 mod words;
 
 use crate::run::run;
-use crate::sink::StdSink;
-use crate::source::StdSource;
 use crate::status::{Fault, Status};
 use nc_cloud::Fanned;
 use nc_folder::FolderCloud;
 use nc_name::Memory;
+use nc_stream::{StdSink, StdSource};
 use std::env;
 use std::io::ErrorKind;
 use std::process::ExitCode;

@@ -6,11 +6,11 @@ ghost use Rattle.nc_memory.specs.Memory.{width_of};
 use crate::fixtures::{
     chunk, copy_object, get_into, gives, held, meta, misplaced, put_bytes, stored, without,
 };
-use crate::memory::MemSink;
 use crate::status::{Fault, Status};
-use nc_memory::MemFleet;
 use nc_frame::seal;
+use nc_memory::MemFleet;
 use nc_name::{Blob, Key, Memory, Name};
+use nc_stream::MemSink;
 use std::alloc::Global;
 use std::test::Fail;
 use std::thread::Threads;

@@ -6,15 +6,15 @@ use crate::fixtures::{
     chunk, copy_object, failing_cloud, gives, held, len_of, meta, misplaced, mixed, put_bytes,
     run_words, stored,
 };
-use crate::memory::{MemSink, MemSource};
 use crate::put::put;
 use crate::setting::Setting;
 use crate::status::{Fault, Status};
-use nc_memory::{MemFleet, Torn};
 use nc_frame::{Seen, open};
+use nc_memory::{MemFleet, Torn};
 use nc_meta::Meta;
 use nc_name::{Blob, Key, Memory, Name};
 use nc_nextloss::confirm;
+use nc_stream::{MemSink, MemSource};
 use sha2::{Digest, Sha256};
 use std::alloc::Global;
 use std::test::Fail;

@@ -4,9 +4,9 @@ ghost use Rattle.std.specs.Io.KnownBytes.{Appends};
 ghost use Rattle.nc_name.specs.Names.{IsName};
 ghost use Rattle.nc_name.specs.declared.name.NameFault.{NameFault as NameCause};
 ghost use Rattle.nc_cloud.specs.Contents.{Rose};
+ghost use Rattle.nc_stream.specs.Output.{AppendsSome};
 ghost use Rattle.nccloud.specs.Drawing.{HasNoCode};
 ghost use Rattle.nccloud.specs.Got.{GetAnswers, GivesHeld, ReadsNoChunk};
-ghost use Rattle.nccloud.specs.Output.{AppendsSome};
 ghost use Rattle.nccloud.specs.Refusals.{IsFree, PutRefuses};
 ghost use Rattle.nccloud.specs.Run.{IsWide, HasBadName, IsBegun, IsEarly, IsDone, IfVault, HasFaultCause, StaysClean, TakesInput, PutsInput};
 ghost use Rattle.nccloud.specs.Settings.{standard, IsSetting};
@@ -14,16 +14,13 @@ ghost use Rattle.nccloud.specs.Store.{ChangesOnlyName};
 ghost use Rattle.nccloud.specs.Words.{put_words, get_words, put_output, IsCommandOf, IfPut, IfGet};
 
 use crate::get::get;
-use crate::input::{InputFault, read_all};
-use crate::output::send;
 use crate::put::put;
 use crate::setting::Setting;
-use crate::sink::Sink;
-use crate::source::Source;
 use crate::status::{Fault, Status};
 use crate::words::{Command, WordFault, read_words};
 use nc_cloud::Fleet;
 use nc_name::Name;
+use nc_stream::{InputFault, Sink, Source, read_all, send};
 use std::alloc::Global;
 use std::thread::Threads;
 

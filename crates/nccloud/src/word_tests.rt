@@ -1,12 +1,11 @@
 //! Words that are no command, widths, and exit codes.
 
 use crate::fixtures::{held, run_words};
-use crate::memory::{MemSink, MemSource};
-use crate::source::Source;
 use crate::status::{Fault, Status};
-use nc_memory::MemFleet;
 use nc_download::ShortList;
+use nc_memory::MemFleet;
 use nc_name::{Blob, Name, NameFault};
+use nc_stream::{MemSink, MemSource, Source};
 use std::test::Fail;
 use std::thread::Threads;
 

@@ -3,7 +3,7 @@ use Rattle.std.specs.Io.KnownBytes.{Appends}
 use Rattle.nccloud.specs.declared.status.Fault.{Fault}
 use Rattle.nccloud.specs.declared.status.Status.TheVariants.{Vault}
 use Rattle.nccloud.specs.Got.{Gives, ReadsNoChunk}
-use Rattle.nccloud.specs.Output.{AppendsSome}
+use Rattle.nc_stream.specs.Output.{AppendsSome}
 use Rattle.nccloud.proofs.GetLaws.{refused_gives, refused_unread}
 use Rattle.nccloud.proofs.get.get.Goals as goal
 

@@ -9,9 +9,10 @@ pub record AppendsSome (before now : Option (List ℕ)) (bytes : List ℕ) : Typ
   pub parts : front ++ rest ≡ bytes
   pub appends : Appends before now front
 
--- the bytes so far were written, these are left, and the count has not fallen
-pub record IsSending (before now : Option (List ℕ)) (old new : ℕ) (bytes rest : List ℕ) : Type 0 where
+-- the bytes so far were written, these are left, and no write has failed
+pub record IsSending (exact : Type 0) (before now : Option (List ℕ)) (old new : ℕ) (bytes rest : List ℕ) : Type 0 where
   pub front : List ℕ
   pub parts : front ++ rest ≡ bytes
   pub appends : Appends before now front
   pub later : old ≤ new
+  pub same : exact → new ≡ old

@@ -1,7 +1,7 @@
 ghost use Rattle.std.specs.Prelude.{◌≡◌, ℕ, List, Option, None};
 ghost use Rattle.std.specs.Io.{WritesAtMost};
 ghost use Rattle.std.specs.Io.KnownBytes.{WriteAppends};
-ghost use Rattle.nccloud.specs.Counts.{HasCount, Moves};
+ghost use Rattle.nc_stream.specs.Counts.{HasCount, Moves};
 
 use crate::failed::Failed;
 use std::io::Write;
@@ -14,15 +14,18 @@ pub trait Sink {
     /// How many writes have failed.
     ghost faults: { Self → ℕ };
 
+    /// This count rises at writes that failed, and at no others.
+    ghost counts_exactly: { Type 0 } = { ⊥ };
+
     /// Writes the first of these bytes, and answers how many: at least one, where there is one.
     fn write(&mut self, bytes: &[u8]) -> Result<usize, Failed>
         ensures bound { WritesAtMost result bytes.now }
         ensures bytes { WriteAppends (written self.old) (written self.new) result bytes.now }
         ensures moves { Moves bytes.now result }
-        ensures cause { HasCount (faults self.old) (faults self.new) result };
+        ensures cause { HasCount counts_exactly (faults self.old) (faults self.new) result };
 }
 
-/// A writer of std as a sink: the trusted edge to standard output. It tells what the writer tells.
+/// A writer of std as a sink: the trusted edge to standard output. It tells what the writer tells, and counts exactly.
 #[derive(Drop)]
 pub struct StdSink<W: Write + Drop> {
     inner: W,
@@ -42,6 +45,8 @@ impl<W: Write + Drop> Sink for StdSink<W> {
     ghost written = { λ s. W.contents s.inner };
 
     ghost faults = { λ s. s.faults };
+
+    ghost counts_exactly = { Unit {0} };
 
     fn write(&mut self, bytes: &[u8]) -> Result<usize, Failed> {
         match self.inner.write(bytes) {

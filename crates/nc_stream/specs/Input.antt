@@ -1,10 +1,10 @@
 -- How much of the input was taken.
 use Rattle.std.specs.Prelude.{ℕ, ◌≡◌, ◌≤◌, ◌+◌, ◌^◌, ◌++◌, Option, List, length, Ok, Err, IsErrOf}
-use Rattle.nc_cloud.specs.Contents.{Rose}
 use Rattle.std.specs.declared.result.Result.{Result}
 use Rattle.std.specs.Io.KnownBytes.{Consumes, IsAtEnd}
-use Rattle.nccloud.specs.declared.input.InputFault.{InputFault}
-use Rattle.nccloud.specs.declared.input.InputFault.TheVariants.{TooLong, Failed, Memory}
+use Rattle.nc_name.specs.Counts.{Rose}
+use Rattle.nc_stream.specs.declared.input.InputFault.{InputFault}
+use Rattle.nc_stream.specs.declared.input.InputFault.TheVariants.{TooLong, Failed, Memory}
 
 -- the most bytes that a file may have: 64 MiB
 abbrev pub limit : ℕ
@@ -31,13 +31,20 @@ pub record Adds (before now : Option (List ℕ)) (old new : List ℕ) (n : ℕ) 
   pub added : new ≡ old ++ taken
   pub count : length taken ≡ n
 
--- the count has not fallen, and a read is answered as failed only where it rose
-pub record FailsBy {T : Type 0} (before now : ℕ) (result : Result T InputFault) : Type 0 where
+-- this holds where no read is answered as failed
+abbrev pub UnlessFailed : {T : Type 0} → Result T InputFault → Type 0 → Type 0
+UnlessFailed (Err Failed) P = Unit {0}
+UnlessFailed other P = P
+
+-- The count has not fallen. A read is answered as failed only where it rose; where counts are exact, it rises only there.
+pub record FailsBy {T : Type 0} (exact : Type 0) (before now : ℕ) (result : Result T InputFault) : Type 0 where
   pub later : before ≤ now
   pub failed : IsErrOf result Failed → Rose before now
+  pub same : exact → UnlessFailed result (now ≡ before)
 
--- these bytes were taken so far, and the count has not fallen
-pub record IsReading (before now : Option (List ℕ)) (old new : ℕ) (bytes : List ℕ) : Type 0 where
+-- these bytes were taken so far, and no read has failed
+pub record IsReading (exact : Type 0) (before now : Option (List ℕ)) (old new : ℕ) (bytes : List ℕ) : Type 0 where
   pub consumed : Consumes before now bytes
   pub short : length bytes ≤ limit + 1
   pub later : old ≤ new
+  pub same : exact → new ≡ old

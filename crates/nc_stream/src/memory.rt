@@ -1,8 +1,9 @@
-//! A source and a sink in memory, which fail at named calls. They serve tests.
+//! A source and a sink in memory, which fail at named calls.
 ghost use Rattle.std.specs.Prelude.{◌≡◌, ◌+◌, ◌-◌, ◌^◌, ◌≤◌, ◌<◌, ◌++◌, ◌∷◌, [], ◌↔◌, ℕ, Some, length, take, drop, min, Contains, IsErr, is_ok, if◌then◌else◌, IfOk, OnOk, OnErr};
 ghost use Rattle.std.specs.Io.{ReadsAtMost, WritesAtMost};
 ghost use Rattle.std.specs.Io.KnownBytes.{ReadConsumes, WriteAppends};
-ghost use Rattle.nccloud.specs.Counts.{HasCount, Moves, next};
+ghost use Rattle.nc_name.specs.Counts.{next};
+ghost use Rattle.nc_stream.specs.Counts.{HasCount, Moves};
 
 use crate::failed::Failed;
 use crate::sink::Sink;
@@ -49,7 +50,7 @@ impl Calls {
         ensures refused { self.new.refused.items ≡ self.old.refused.items }
         ensures exact { IsErr result ↔ Contains self.old.refused.items (next self.old.made) }
         ensures faults { self.new.faults ≡ (if is_ok result then self.old.faults else next self.old.faults) }
-        ensures cause { HasCount self.old.faults self.new.faults result }
+        ensures cause { HasCount (Unit {0}) self.old.faults self.new.faults result }
     {
         self.made = self.made.saturating_add(1);
         if self.refused.contains(&self.made) {
@@ -106,10 +107,12 @@ impl Source for MemSource {
 
     ghost faults = { λ s. s.calls.faults };
 
+    ghost counts_exactly = { Unit {0} };
+
     fn read(&mut self, buf: &mut [u8]) -> Result<usize, Failed>
         ensures bound { ReadsAtMost result buf.new }
         ensures bytes { ReadConsumes (Some (drop self.old.at self.old.bytes)) (Some (drop self.new.at self.new.bytes)) result buf.new }
-        ensures cause { HasCount self.old.calls.faults self.new.calls.faults result }
+        ensures cause { HasCount (Unit {0}) self.old.calls.faults self.new.calls.faults result }
         ensures exact { IsErr result ↔ Contains self.old.calls.refused.items (next self.old.calls.made) }
         ensures made { self.new.calls.made ≡ next self.old.calls.made }
         ensures refused { self.new.calls.refused.items ≡ self.old.calls.refused.items }
@@ -190,11 +193,13 @@ impl Sink for MemSink {
 
     ghost faults = { λ s. s.calls.faults };
 
+    ghost counts_exactly = { Unit {0} };
+
     fn write(&mut self, bytes: &[u8]) -> Result<usize, Failed>
         ensures bound { WritesAtMost result bytes.now }
         ensures bytes { WriteAppends (Some self.old.bytes.items) (Some self.new.bytes.items) result bytes.now }
         ensures moves { Moves bytes.now result }
-        ensures cause { HasCount self.old.calls.faults self.new.calls.faults result }
+        ensures cause { HasCount (Unit {0}) self.old.calls.faults self.new.calls.faults result }
         ensures fails { Contains self.old.calls.refused.items (next self.old.calls.made) → IsErr result }
         ensures made { self.new.calls.made ≡ next self.old.calls.made }
         ensures refused { self.new.calls.refused.items ≡ self.old.calls.refused.items }

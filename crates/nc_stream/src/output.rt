@@ -1,7 +1,7 @@
-ghost use Rattle.std.specs.Prelude.{◌≡◌, ◌≤◌, OnOk, OnErr};
+ghost use Rattle.std.specs.Prelude.{OnOk};
 ghost use Rattle.std.specs.Io.KnownBytes.{Appends};
-ghost use Rattle.nc_cloud.specs.Contents.{Rose};
-ghost use Rattle.nccloud.specs.Output.{AppendsSome};
+ghost use Rattle.nc_stream.specs.Counts.{HasCount};
+ghost use Rattle.nc_stream.specs.Output.{AppendsSome};
 
 use crate::failed::Failed;
 use crate::sink::Sink;
@@ -10,8 +10,7 @@ use crate::sink::Sink;
 pub fn send<K: Sink>(out: &mut K, bytes: &[u8]) -> Result<(), Failed>
     ensures ok { OnOk result (Appends (K.written out.old) (K.written out.new) bytes.now) }
     ensures some { AppendsSome (K.written out.old) (K.written out.new) bytes.now }
-    ensures failed { OnErr result (Rose (K.faults out.old) (K.faults out.new)) }
-    ensures later { K.faults out.old ≤ K.faults out.new }
+    ensures cause { HasCount K.counts_exactly (K.faults out.old) (K.faults out.new) result }
 {
     let mut rest = bytes;
     while !rest.is_empty() {

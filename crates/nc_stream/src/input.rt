@@ -1,13 +1,14 @@
 ghost use Rattle.std.specs.Prelude.{◌≡◌, ◌≤◌, ◌<◌, ◌+◌, ◌++◌, ◌^◌, length, take, vec_len, IfOk, OnOk, OnErr, IfErr, IsErrOf};
 ghost use Rattle.std.specs.Io.KnownBytes.{Consumes, IsAtEnd, Keeps};
 ghost use Rattle.nc_bytes.specs.Bytes.{part};
-ghost use Rattle.nccloud.specs.Counts.{HasCount};
-ghost use Rattle.nccloud.specs.Input.{limit, Reads, Adds, FailsBy};
+ghost use Rattle.nc_stream.specs.Counts.{HasCount};
+ghost use Rattle.nc_stream.specs.Input.{limit, Reads, Adds, FailsBy};
 
 use crate::failed::Failed;
 use crate::source::Source;
 use nc_name::Blob;
 use std::alloc::Global;
+use thiserror::Error;
 
 /// The most bytes that a file may have: 64 MiB.
 pub const LIMIT: usize = 67_108_864;
@@ -16,20 +17,23 @@ pub const LIMIT: usize = 67_108_864;
 const PIECE: usize = 1_048_576;
 
 /// Why the input wasn't read.
-#[derive(Clone, Copy, Debug, PartialEq, Eq)]
+#[derive(Clone, Copy, Debug, PartialEq, Eq, Error)]
 pub enum InputFault {
     /// It has more than `LIMIT` bytes.
+    #[error("the input is longer than 64 MiB")]
     TooLong,
     /// The source failed before its end.
+    #[error("the input failed before its end")]
     Failed,
     /// No memory was found.
+    #[error("no memory was found")]
     Memory,
 }
 
 /// Reads the whole input.
 pub fn read_all<S: Source>(alloc: Global, source: &mut S) -> Result<Blob, InputFault>
     ensures reads { Reads (S.left source.old) (S.left source.new) (result) }
-    ensures cause { FailsBy (S.faults source.old) (S.faults source.new) result }
+    ensures cause { FailsBy S.counts_exactly (S.faults source.old) (S.faults source.new) result }
 {
     let mut bytes = match Vec::with_capacity(alloc, LIMIT + 1) {
         Ok(bytes) => bytes,
@@ -54,7 +58,7 @@ fn read_piece<S: Source>(source: &mut S, bytes: &mut Vec<u8>) -> Result<usize, I
     ensures kept { OnErr result (Keeps (S.left source.old) (S.left source.new)) }
     ensures same { OnErr result (bytes.new.items ≡ bytes.old.items) }
     ensures short { IsErrOf result InputFault.TooLong → ⊥ }
-    ensures cause { FailsBy (S.faults source.old) (S.faults source.new) result }
+    ensures cause { FailsBy S.counts_exactly (S.faults source.old) (S.faults source.new) result }
 {
     let at = bytes.len();
     let room = PIECE.min(LIMIT + 1 - at);
@@ -94,7 +98,7 @@ fn read_from<S: Source>(source: &mut S, buf: &mut [u8], at: usize) -> Result<usi
     ensures taken { IfOk result (λ n. Consumes (S.left source.old) (S.left source.new) (part at n buf.new)) }
     ensures end { IfOk result (λ n. n ≡ 0 → IsAtEnd (S.left source.new)) }
     ensures kept { OnErr result (Keeps (S.left source.old) (S.left source.new)) }
-    ensures cause { HasCount (S.faults source.old) (S.faults source.new) result }
+    ensures cause { HasCount S.counts_exactly (S.faults source.old) (S.faults source.new) result }
 {
     source.read(&mut buf[at..])
 }

@@ -1,6 +1,6 @@
 use Rattle.std.proofs.Common.{arith, ◌≡◌, take, drop, ap, ◌∙◌, sym}
-use Rattle.nccloud.proofs.InputLemmas.{given, given_none}
-use Rattle.nccloud.proofs.memory.MemSourceSource.read.Goals as goal
+use Rattle.nc_stream.proofs.InputLemmas.{given, given_none}
+use Rattle.nc_stream.proofs.memory.MemSourceSource.read.Goals as goal
 
 pub returns-clause-bytes : goal.returns-clause-bytes
 returns-clause-bytes c =

@@ -1,7 +1,7 @@
 use Rattle.std.proofs.Common.{arith, ◌≡◌, ◌≤◌, ◌+◌, length, take, vec_len}
 use Rattle.nc_bytes.specs.Bytes.{part}
-use Rattle.nccloud.proofs.InputLemmas.{added, count_of_part}
-use Rattle.nccloud.proofs.input.read_piece.Goals as goal
+use Rattle.nc_stream.proofs.InputLemmas.{added, count_of_part}
+use Rattle.nc_stream.proofs.input.read_piece.Goals as goal
 
 pub returns-in-Ok-clause-taken : goal.returns-in-Ok-clause-taken
 returns-in-Ok-clause-taken g c =

@@ -1,8 +1,6 @@
 //! Sources and sinks in memory.
 
-use crate::memory::{MemSink, MemSource};
-use crate::sink::Sink;
-use crate::source::Source;
+use crate::{MemSink, MemSource, Sink, Source};
 use nc_name::Blob;
 use std::test::Fail;
 
