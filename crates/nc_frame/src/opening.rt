@@ -28,10 +28,7 @@ pub fn open<'a>(cloud: u8, width: u8, key: &Key, bytes: &'a [u8]) -> Seen<'a>
     let Some(parts) = read_parts(bytes) else {
         return Seen::Broken;
     };
-    if parts.cloud != cloud {
-        return parts.misplaced();
-    }
-    if parts.width != width {
+    if parts.cloud != cloud || parts.width != width {
         return parts.misplaced();
     }
     if is_same(parts.key, key.text().as_str().as_bytes()) {
@@ -92,7 +89,7 @@ fn read_parts(bytes: &[u8]) -> Option<Parts<'_>>
 }
 
 /// Whether what stands from a place on is the SHA-256 of what stands before it.
-fn is_digested(bytes: &[u8], end: usize) -> bool
+pub(crate) fn is_digested(bytes: &[u8], end: usize) -> bool
     requires { end ≤ length bytes.now }
     ensures { IsTrue result ↔ (sha256 (take end bytes.now) ≡ drop end bytes.now) }
 {

@@ -1,5 +1,6 @@
 ghost use Rattle.nc_name.specs.Keys.{Slots};
 
+use crate::opening::is_digested;
 use crate::{Seen, open, seal};
 use nc_name::{Key, Name};
 use std::test::Fail;
@@ -29,15 +30,36 @@ fn chunk(name: Name) -> Key
     }
 }
 
-fn is_payload(seen: &Seen, bytes: &[u8]) -> bool {
+/// The SHA-256 of no bytes, by FIPS 180-4.
+const OF_NONE: [u8; 32] = [
+    0xe3, 0xb0, 0xc4, 0x42, 0x98, 0xfc, 0x1c, 0x14, 0x9a, 0xfb, 0xf4, 0xc8, 0x99, 0x6f, 0xb9, 0x24,
+    0x27, 0xae, 0x41, 0xe4, 0x64, 0x9b, 0x93, 0x4c, 0xa4, 0x95, 0x99, 0x1b, 0x78, 0x52, 0xb8, 0x55,
+];
+
+/// "abc", and its SHA-256 by FIPS 180-4.
+const ABC: [u8; 35] = [
+    b'a', b'b', b'c', 0xba, 0x78, 0x16, 0xbf, 0x8f, 0x01, 0xcf, 0xea, 0x41, 0x41, 0x40, 0xde, 0x5d,
+    0xae, 0x22, 0x23, 0xb0, 0x03, 0x61, 0xa3, 0x96, 0x17, 0x7a, 0x9c, 0xb4, 0x10, 0xff, 0x61, 0xf2,
+    0x00, 0x15, 0xad,
+];
+
+/// The payload that was seen.
+fn payload_of<'a>(seen: &Seen<'a>) -> Option<&'a [u8]> {
     match seen {
-        Seen::Payload(payload) => *payload == bytes,
-        _ => false,
+        Seen::Payload(payload) => Some(*payload),
+        _ => None,
     }
 }
 
-fn is_broken(seen: &Seen) -> bool {
-    matches!(seen, Seen::Broken)
+/// The cloud and width that a misplaced frame says.
+fn said_by(seen: &Seen) -> Option<(u8, u8)> {
+    match seen {
+        Seen::Misplaced {
+            said_cloud,
+            said_width,
+        } => Some((*said_cloud, *said_width)),
+        _ => None,
+    }
 }
 
 #[test]
@@ -45,51 +67,33 @@ fn a_payload_is_sealed_and_opened(rt: HostRuntime) -> Result<(), Fail> {
     let key = chunk(Name::read("a")?);
     let blob = seal(rt.alloc(), 2, 4, &key, &[4, 4])?;
     assert_eq!(rt; blob.bytes(), FRAME.as_slice());
-    assert!(rt; is_payload(&open(2, 4, &key, blob.bytes()), &[4, 4]));
+    let seen = open(2, 4, &key, blob.bytes());
+    assert_eq!(rt; payload_of(&seen).ok_or("no payload")?, [4, 4].as_slice());
     Ok(())
 }
 
 #[test]
-fn another_cloud_or_key_is_told(rt: HostRuntime) -> Result<(), Fail> {
-    let key = chunk(Name::read("a")?);
-    let seen = open(1, 4, &key, &FRAME);
-    assert!(rt;
-        matches!(
-            &seen,
-            Seen::Misplaced {
-                said_cloud: 2,
-                said_width: 4
-            }
-        )
-    );
-    let seen = open(2, 5, &key, &FRAME);
-    assert!(rt;
-        matches!(
-            &seen,
-            Seen::Misplaced {
-                said_cloud: 2,
-                said_width: 4
-            }
-        )
-    );
-    let other = chunk(Name::read("b")?);
-    assert!(rt; is_broken(&open(2, 4, &other, &FRAME)));
-    Ok(())
-}
-
-#[test]
-fn a_byte_more_or_less_is_broken(rt: HostRuntime) -> Result<(), Fail> {
-    let key = chunk(Name::read("a")?);
+fn what_is_no_frame_of_here_is_told(rt: HostRuntime) -> Result<(), Fail> {
     let mut longer = FRAME.to_vec(rt.alloc())?;
     longer.push(0)?;
-    assert!(rt; is_broken(&open(2, 4, &key, longer.as_slice())));
-    assert!(rt; is_broken(&open(2, 4, &key, &FRAME[..57])));
+    for (cloud, width, name, bytes, said) in [
+        (1, 4, "a", FRAME.as_slice(), Some((2, 4))),
+        (2, 5, "a", FRAME.as_slice(), Some((2, 4))),
+        (2, 4, "b", FRAME.as_slice(), None),
+        (2, 4, "a", longer.as_slice(), None),
+        (2, 4, "a", &FRAME[..57], None),
+        (2, 4, "a", HOSTILE.as_slice(), None),
+    ] {
+        let seen = open(cloud, width, &chunk(Name::read(name)?), bytes);
+        assert_eq!(rt; said_by(&seen), said);
+        assert!(rt; payload_of(&seen).is_none());
+    }
     Ok(())
 }
 
 #[test]
-fn a_hostile_length_is_broken(rt: HostRuntime) -> Result<(), Fail> {
-    let key = chunk(Name::read("a")?);
-    assert!(rt; is_broken(&open(2, 4, &key, &HOSTILE)));
-    Ok(())
+fn digests_are_those_of_fips_180_4(rt: HostRuntime) {
+    assert!(rt; is_digested(&OF_NONE, 0));
+    assert!(rt; is_digested(&ABC, 3));
+    assert!(rt; !is_digested(&ABC, 2));
 }
