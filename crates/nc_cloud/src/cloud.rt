@@ -1,12 +1,10 @@
-ghost use Rattle.std.specs.Prelude.{◌≡◌, ◌≤◌, ◌++◌, ◌∷◌, [], ℕ, Some, None, IfOk, OnOk, OnErr, IsErrOf, is_ok, insert, length};
+ghost use Rattle.std.specs.Prelude.{◌≡◌, ◌≤◌, ℕ, Some, None, IfOk, IsErrOf, is_ok};
 ghost use Rattle.nc_frame.specs.Frames.{Whole};
 ghost use Rattle.nc_cloud.specs.Contents.{Store, Rose, Settles, ChangesAt};
 ghost use Rattle.nc_cloud.specs.Cloud.{GetShows, got_after, Lists};
 ghost use Rattle.nc_cloud.specs.declared.cloud.CloudError.TheVariants.{Failed, Memory as NoMemory};
 
-use nc_name::{Blob, Key, Memory};
-use std::alloc::Global;
-use std::marker::Model;
+use nc_name::{Blob, Key, Memory, Sequence};
 
 /// Why a call on a cloud wasn't done.
 #[derive(Clone, Copy, Debug, PartialEq, Eq)]
@@ -36,59 +34,8 @@ pub enum Got {
     Long,
 }
 
-/// Keys, seen as their list.
-#[derive(Debug, Drop)]
-pub struct KeyList {
-    keys: Vec<Key>,
-}
-
-impl Model for KeyList {
-    ghost use Rattle.std.specs.Prelude.{List};
-    ghost use Rattle.nc_name.specs.declared.key.Key.{Key};
-
-    ghost Value = { List Key };
-
-    ghost view = { λ k. k.keys.items };
-}
-
-impl KeyList {
-    pub fn new(alloc: Global) -> KeyList
-        ensures { result ≡ [] }
-    {
-        KeyList {
-            keys: Vec::new(alloc),
-        }
-    }
-
-    /// A key more. At `Memory` the list is as it was.
-    pub fn push(&mut self, key: Key) -> Result<(), Memory>
-        ensures ok { OnOk result (self.new ≡ self.old ++ key ∷ []) }
-        ensures err { OnErr result (self.new ≡ self.old) }
-    {
-        match self.keys.push(key) {
-            Ok(()) => Ok(()),
-            Err(_) => Err(Memory),
-        }
-    }
-
-    /// A key more at a place. At `Memory` the list is as it was.
-    pub fn insert(&mut self, at: usize, key: Key) -> Result<(), Memory>
-        requires { at ≤ length self.old }
-        ensures ok { OnOk result (self.new ≡ insert self.old at key) }
-        ensures err { OnErr result (self.new ≡ self.old) }
-    {
-        match self.keys.insert(at, key) {
-            Ok(()) => Ok(()),
-            Err(_) => Err(Memory),
-        }
-    }
-
-    pub fn items(&self) -> &[Key]
-        ensures { result.now ≡ self.now }
-    {
-        self.keys.as_slice()
-    }
-}
+/// Keys in order.
+pub type KeyList = Sequence<Key>;
 
 /// One cloud. A call that fails raises one of its two counts.
 pub trait Cloud {

@@ -6,7 +6,7 @@ ghost use Rattle.nc_mix.specs.Mixing.{AreChunksOf, chunks_of, lent};
 
 use crate::adding::mix;
 use crate::gates::Gate;
-use crate::list::Chunks;
+use crate::Chunks;
 use nc_code::Code;
 use nc_name::{Blob, Memory};
 use nc_native::Natives;

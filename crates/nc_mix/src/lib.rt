@@ -6,14 +6,17 @@ mod adding;
 mod decoding;
 mod encoding;
 mod gates;
-mod list;
 mod pieces;
 
 pub use decoding::decode;
 pub use encoding::encode;
 pub use gates::{Gate, Open};
-pub use list::Chunks;
 pub use pieces::Piece;
+
+use nc_name::{Blob, Sequence};
+
+/// The chunks that the clouds hold of a file, two for each cloud, in order.
+pub type Chunks = Sequence<Blob>;
 
 #[cfg(test)]
 mod tests;

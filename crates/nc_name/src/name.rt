@@ -3,6 +3,7 @@ ghost use Rattle.nc_name.specs.Names.{IsName, IsFirstControl, RefusesName, is_co
 
 use nc_bytes::is_same;
 use std::marker::Model;
+use thiserror::Error;
 
 /// The name of a file: 1 to 100 bytes of UTF-8 without control characters, seen as the list of its bytes.
 /// It stands in a fixed array, whose unused bytes are 0, so that it is copied without memory.
@@ -29,13 +30,16 @@ impl Model for Name {
 }
 
 /// Why a text is no name. Of several causes the first here is told.
-#[derive(Clone, Copy, Debug, PartialEq, Eq)]
+#[derive(Clone, Copy, Debug, PartialEq, Eq, Error)]
 pub enum NameFault {
     /// It has no bytes.
+    #[error("the name is empty")]
     Empty,
     /// It has this many bytes, which are more than 100.
+    #[error("the name has {len} bytes, more than 100")]
     Long { len: u64 },
     /// The first control character stands at this byte: one below 0x20, or 0x7F.
+    #[error("byte {at} of the name is a control character")]
     Control { at: u64 },
 }
 

@@ -2,7 +2,7 @@ ghost use Rattle.std.specs.Prelude.{◌≡◌, ℕ, ◌-◌, ◌≤◌, List, �
 ghost use Rattle.nc_gf256.specs.Width.{native_count};
 ghost use Rattle.nc_native.specs.Native.{chunk_size, natives_of, native_len, AllLong};
 
-use crate::list::Natives;
+use crate::Natives;
 use nc_name::{Blob, Memory};
 use std::alloc::Global;
 

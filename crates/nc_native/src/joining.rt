@@ -2,7 +2,7 @@ ghost use Rattle.std.specs.Prelude.{◌≡◌, ◌≤◌, length, take, IfOk};
 ghost use Rattle.std.specs.List.{concat};
 ghost use Rattle.nc_native.specs.Native.{natives_of};
 
-use crate::list::Natives;
+use crate::Natives;
 use nc_name::{Blob, Memory};
 use std::alloc::Global;
 

@@ -3,11 +3,14 @@
 
 mod cutting;
 mod joining;
-mod list;
 
 pub use cutting::{chunk_size, cut};
 pub use joining::{join, joins};
-pub use list::Natives;
+
+use nc_name::{Blob, Sequence};
+
+/// Native chunks in order.
+pub type Natives = Sequence<Blob>;
 
 #[cfg(test)]
 mod tests {
