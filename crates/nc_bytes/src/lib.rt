@@ -2,7 +2,7 @@
 #![tactic(auto)]
 
 ghost use Rattle.std.specs.Prelude.{◌≡◌, ◌↔◌, ◌+◌, ◌-◌, ◌≤◌, length, IsTrue, take};
-ghost use Rattle.nc_bytes.specs.Bytes.{part, bytes_2, bytes_8};
+ghost use Rattle.nc_bytes.specs.Bytes.{AreBytes, part, bytes_2, bytes_8};
 
 use byteorder::{BigEndian, ByteOrder};
 
@@ -21,6 +21,13 @@ pub fn is_same(a: &[u8], b: &[u8]) -> bool
     ensures { IsTrue result ↔ (a.now ≡ b.now) }
 {
     a == b
+}
+
+/// Tells that what a slice has are bytes. It computes nothing, as each function whose name begins with `told_`.
+pub fn told_bytes(bytes: &[u8])
+    ensures { AreBytes bytes.now }
+{
+    let _ = bytes;
 }
 
 /// A number in two bytes, the high one first.

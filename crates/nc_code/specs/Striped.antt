@@ -2,11 +2,8 @@
 use Rattle.std.specs.Prelude.{ℕ, ◌+◌, ◌-◌, ◌*◌, ◌/◌, ◌%◌, ◌^◌, ◌==◌, nat_lt, List, map, if◌then◌else◌}
 use Rattle.std.specs.List.{range_with_len}
 use Rattle.nc_code.specs.Parts.{CodeParts}
+use Rattle.nc_gf256.specs.Rows.{unit}
 use Rattle.nc_gf256.specs.Width.{native_count}
-
--- 1 at place k, else 0
-abbrev pub unit : ℕ → ℕ → ℕ
-unit k i = if i == k then 1 else 0
 
 -- the natives 2c + s, each with its weight
 abbrev pub stripe : ℕ → (ℕ → ℕ) → ℕ → ℕ

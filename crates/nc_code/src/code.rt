@@ -1,8 +1,9 @@
 ghost use Rattle.std.specs.Prelude.{◌≡◌, ◌↔◌, ◌*◌, ◌<◌, ◌≤◌, ℕ, [], IsTrue, slice_index, slice_index_or};
 ghost use Rattle.nc_gf256.specs.Width.{native_count};
-ghost use Rattle.nc_code.specs.Parts.{IsCode, IsRow, IsTable};
+ghost use Rattle.nc_code.specs.Parts.{IsCode};
 ghost use Rattle.nc_code.specs.Codes.{code_row};
 
+use crate::told::told_rows;
 use std::marker::Model;
 
 /// Which combinations of the native chunks the clouds hold. Row `r`, 0 or 1, of cloud `c` is `rows[2c+r]`; entry `i` of a
@@ -63,23 +64,4 @@ pub fn same_code(a: &Code, b: &Code) -> bool
     ensures { IsTrue result ↔ (a.now ≡ b.now) }
 {
     a.width == b.width && a.rows == b.rows
-}
-
-// The functions below compute nothing: they tell what the types of arrays keep, which a proof knows of what is read.
-
-/// An array of rows has twenty rows of sixteen bytes.
-fn told_rows(rows: &[[u8; 16]; 20])
-    ensures { IsTable 20 16 rows.now }
-{
-    for row in rows {
-        told_row(row);
-    }
-}
-
-fn told_row(row: &[u8; 16])
-    ensures { IsRow 16 row.now }
-{
-    for b in row {
-        let _byte = *b;
-    }
 }

@@ -6,11 +6,13 @@ mod code;
 mod plan;
 mod repair;
 mod stripes;
+mod told;
 
 pub use code::{Code, same_code};
 pub use plan::{Plan, Witnesses, same_plan, same_witnesses};
 pub use repair::{repaired, repairing_twice};
 pub use stripes::striped;
+pub use told::{told_row, told_rows};
 
 #[cfg(test)]
 mod tests {

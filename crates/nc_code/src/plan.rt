@@ -1,8 +1,9 @@
 ghost use Rattle.std.specs.Prelude.{◌≡◌, ◌↔◌, ◌<◌, ℕ, IsTrue, length, slice_index};
-ghost use Rattle.nc_code.specs.Parts.{IsPlan, IsTable, IsRow};
+ghost use Rattle.nc_code.specs.Parts.{IsPlan};
 ghost use Rattle.nc_code.specs.Codes.{no_plan};
 ghost use Rattle.nc_code.specs.Good.{plan_of};
 
+use crate::told::told_rows;
 use std::marker::Model;
 
 /// How the two rows of a lost cloud are made anew, by survivor `t`: its row `choice[t]`, 0 or 1, is fetched, and
@@ -39,7 +40,7 @@ impl Plan {
         ensures parts { result ≡ record { choice = choice.now; coefs = coefs.now } }
         ensures kept { IsPlan result }
     {
-        told_coefs(coefs);
+        told_rows(coefs);
         Plan {
             choice: *choice,
             coefs: *coefs,
@@ -47,7 +48,7 @@ impl Plan {
     }
 
     /// Tells what the type keeps.
-    pub fn kept(&self)
+    pub fn told_plan(&self)
         ensures { IsPlan self.now }
     {
         let _choice = &self.choice;
@@ -62,7 +63,7 @@ pub struct Witnesses {
 
 impl Witnesses {
     /// Tells how many plans there are.
-    pub fn kept(&self)
+    pub fn told_count(&self)
         ensures { length self.now.plans ≡ 10 }
     {
         let _plans = &self.plans;
@@ -88,8 +89,8 @@ pub fn same_plan(a: &Plan, b: &Plan) -> bool
 pub fn same_witnesses(a: &Witnesses, b: &Witnesses) -> bool
     ensures { IsTrue result ↔ (a.now ≡ b.now) }
 {
-    a.kept();
-    b.kept();
+    a.told_count();
+    b.told_count();
     for lost in 0..10u8 {
         if !same_plan(a.plan(lost), b.plan(lost)) {
             return false;
@@ -108,23 +109,4 @@ fn same_coefs(a: &[[u8; 10]; 2], b: &[[u8; 10]; 2]) -> bool
     ensures { IsTrue result ↔ (a.now ≡ b.now) }
 {
     a == b
-}
-
-// The functions below compute nothing: they tell what the types of arrays keep, which a proof knows of what is read.
-
-/// An array of factors has two rows of ten bytes.
-fn told_coefs(coefs: &[[u8; 10]; 2])
-    ensures { IsTable 2 10 coefs.now }
-{
-    for row in coefs {
-        told_row(row);
-    }
-}
-
-fn told_row(row: &[u8; 10])
-    ensures { IsRow 10 row.now }
-{
-    for b in row {
-        let _byte = *b;
-    }
 }

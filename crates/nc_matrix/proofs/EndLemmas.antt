@@ -4,13 +4,13 @@ use Rattle.std.proofs.lemmas.Bool.{cases_lt, cases_eq, cond-true, cond-false}
 use lib.Bits.{bit_xor, xor_zero_r, xor_self}
 use Rattle.nc_bytes.specs.Bytes.{AreBytes}
 use Rattle.nc_gf256.specs.Field.{mul, total}
-use Rattle.nc_gf256.specs.Rows.{Independent}
+use Rattle.nc_gf256.specs.Rows.{Independent, unit}
 use Rattle.nc_gf256.proofs.FieldLaws.{mul_zero, mul_one, one_mul, zero_mul_any}
 use Rattle.nc_gf256.proofs.Sums.{total_same, total_split, total_none, total_one, total_two, same_of_xor}
 use Rattle.nc_matrix.specs.Cells.{row_of, entry}
-use Rattle.nc_matrix.specs.Products.{IsVector, times, unit}
+use Rattle.nc_matrix.specs.Products.{IsVector, times}
 use Rattle.nc_matrix.specs.Elimination.{AreRows, Solves, IsReduced, IsStep, IsAugmented, IsReadOff}
-use Rattle.nc_matrix.specs.Inverted.{IsRow, IsInverse, IsKernel}
+use Rattle.nc_matrix.specs.Inverted.{IsRowAmong, IsInverse, IsKernel}
 use Rattle.nc_matrix.proofs.TableLemmas.{unit_same, unit_other, unit_lt}
 
 -- two vectors of n entries as one of 2n
@@ -177,7 +177,7 @@ read_solves n c rows v bytes reduced lc none read i li =
     ]
 
 -- a vector that the rows send to 0 shows that they are dependent
-pub kernel_dependent : (n : ℕ) (a : List (List ℕ)) (v : List ℕ) (place : ℕ) → place < n → slice_index v place ≢ 0 → AreBytes v → ((i : ℕ) → i < n → times n a i (λ k. slice_index v k) ≡ 0) → Independent n (IsRow n a) → ⊥
+pub kernel_dependent : (n : ℕ) (a : List (List ℕ)) (v : List ℕ) (place : ℕ) → place < n → slice_index v place ≢ 0 → AreBytes v → ((i : ℕ) → i < n → times n a i (λ k. slice_index v k) ≡ 0) → Independent n (IsRowAmong n a) → ⊥
 kernel_dependent n a v place within some bytes sent independent =
     some (independent.only_zeros v bytes (λ row is. ap (λ r. total n (λ k. mul (slice_index r k) (slice_index v k))) is.2 ∙ sent is.0 is.1) place within)
 

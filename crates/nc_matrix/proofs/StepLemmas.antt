@@ -5,8 +5,9 @@ use lib.Bits.{bit_xor, xor_zero_r, xor_self}
 use Rattle.nc_gf256.specs.Field.{mul}
 use Rattle.nc_gf256.proofs.FieldLaws.{mul_lt, mul_zero, mul_one, one_mul, mul_assoc, mul-xor_left, zero_mul_any}
 use Rattle.nc_gf256.proofs.Sums.{total_same, total-xor, total_lt, mul-total_right, no_divisors}
+use Rattle.nc_gf256.specs.Rows.{unit}
 use Rattle.nc_matrix.specs.Cells.{entry}
-use Rattle.nc_matrix.specs.Products.{IsVector, times, unit}
+use Rattle.nc_matrix.specs.Products.{IsVector, times}
 use Rattle.nc_matrix.specs.Elimination.{AreRows, SameSolutions, IsReduced, IsStep, IsSheared, IsScaled, IsPivot, IsNormalized, lifting, clearing}
 use Rattle.nc_matrix.proofs.TableLemmas.{unit_same, unit_other, unit_lt, add_none, lifting_none, lifting_some, clearing_here, clearing_other}
 

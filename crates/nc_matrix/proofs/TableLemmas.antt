@@ -7,7 +7,7 @@ use Rattle.nc_gf256.proofs.FieldLaws.{zero_mul_any}
 use Rattle.std.proofs.lemmas.List.{get_or_past, get_or-replicate}
 use Rattle.nc_matrix.proofs.RowLemmas.{zeros_everywhere}
 use Rattle.nc_matrix.specs.Cells.{entry}
-use Rattle.nc_matrix.specs.Products.{unit}
+use Rattle.nc_gf256.specs.Rows.{unit}
 use Rattle.nc_matrix.specs.Elimination.{IsSheared, lifting, clearing}
 
 pub unit_same : (i : ℕ) → unit i i ≡ 1

@@ -1,8 +1,9 @@
 -- Elimination in one table [a | identity] of 2n columns: what each step keeps.
 use Rattle.std.specs.Prelude.{ℕ, ◌≡◌, ◌≢◌, ◌+◌, ◌<◌, ◌≤◌, ◌==◌, if◌then◌else◌, List, slice_index, bit_xor}
 use Rattle.nc_gf256.specs.Field.{mul}
+use Rattle.nc_gf256.specs.Rows.{unit}
 use Rattle.nc_matrix.specs.Cells.{entry}
-use Rattle.nc_matrix.specs.Products.{IsVector, times, unit}
+use Rattle.nc_matrix.specs.Products.{IsVector, times}
 
 -- the first n rows are bytes
 abbrev pub AreRows : ℕ → List (List ℕ) → Type 0

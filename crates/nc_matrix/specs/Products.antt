@@ -1,5 +1,5 @@
 -- Vectors as functions of the place, and their products with the rows of a table.
-use Rattle.std.specs.Prelude.{ℕ, ◌<◌, ◌==◌, if◌then◌else◌, List, slice_index}
+use Rattle.std.specs.Prelude.{ℕ, ◌<◌, List, slice_index}
 use Rattle.nc_gf256.specs.Field.{mul, total}
 use Rattle.nc_matrix.specs.Cells.{entry}
 
@@ -10,10 +10,6 @@ IsVector m z = (k : ℕ) → k < m → z k < 256
 -- the dot product of row i with a vector, both of m entries
 abbrev pub times : ℕ → List (List ℕ) → ℕ → (ℕ → ℕ) → ℕ
 times m rows i z = total m (λ k. mul (entry rows i k) (z k))
-
--- the identity: 1 where row and column are the same, else 0
-abbrev pub unit : ℕ → ℕ → ℕ
-unit i k = if i == k then 1 else 0
 
 -- the sum of the products of a row's first n entries with those of column k
 abbrev pub product_entry : ℕ → List ℕ → List (List ℕ) → ℕ → ℕ

@@ -3,7 +3,7 @@
 ghost use Rattle.std.specs.Prelude.{◌≡◌, ℕ, ◌+◌, ◌<◌, ◌≤◌, slice_index, bit_xor};
 ghost use Rattle.nc_bytes.specs.Bytes.{AreBytes};
 ghost use Rattle.nc_gf256.specs.Field.{mul};
-ghost use Rattle.nc_matrix.specs.Products.{unit};
+ghost use Rattle.nc_gf256.specs.Rows.{unit};
 
 use nc_gf256::{add, mul};
 

@@ -9,9 +9,9 @@ use Rattle.nc_code.specs.Parts.{CodeParts}
 use Rattle.nc_code.specs.Codes.{code_row, IsPairMds}
 use Rattle.nc_code.proofs.RowSums.{zeros}
 use Rattle.nc_matrix.specs.Cells.{row_of, entry}
-use Rattle.nc_matrix.specs.Inverted.{IsRow, IsKernel}
+use Rattle.nc_matrix.specs.Inverted.{IsRowAmong, IsKernel}
 use Rattle.nc_matrix.specs.declared.square.Square.{Square}
-use Rattle.nc_mds.specs.Verdicts.{Shows, other_cloud}
+use Rattle.nc_mds.specs.Verdicts.{ShowsDependent, other_cloud}
 use Rattle.nc_mds.specs.Others.{AreOthers}
 
 -- the cloud at a position is neither a nor b
@@ -39,10 +39,10 @@ position_is n a b c less within is = elim (cases_lt c a) [
 
 -- where the square's rows are independent, the pair may be lost
 pub pair_mds : (code : CodeParts) (a b : ℕ) (square : Square) → a < b → b < code.width → AreOthers code a b square
-    → Independent square.size (IsRow square.size square.cells) → IsPairMds code a b
+    → Independent square.size (IsRowAmong square.size square.cells) → IsPairMds code a b
 pair_mds code a b square less within are free =
     let n = native_count code.width in
-    let same : Independent n (IsRow n square.cells) = subst (λ (k : ℕ). Independent k (IsRow k square.cells)) are.size free in
+    let same : Independent n (IsRowAmong n square.cells) = subst (λ (k : ℕ). Independent k (IsRowAmong k square.cells)) are.size free in
     record {
       free = record {
         only_zeros = λ v bytes sent i below. same.only_zeros v bytes (λ row is. sent row (
@@ -74,7 +74,7 @@ sent_row code a b square v are kernel p low r pair row is =
 
 -- a vector that the square's rows send to 0 shows that the pair may not be lost
 pub pair_shown : (code : CodeParts) (a b : ℕ) (square : Square) (v : List ℕ) → a < b → b < code.width → AreOthers code a b square
-    → IsKernel square.size square.cells v → Shows code a b v
+    → IsKernel square.size square.cells v → ShowsDependent code a b v
 pair_shown code a b square v less within are kernel =
     let n = native_count code.width in
     let same : IsKernel n square.cells v = subst (λ (k : ℕ). IsKernel k square.cells v) are.size kernel in

@@ -12,7 +12,7 @@ use Rattle.nc_gf256.proofs.Sums.{total_same, total_swap, total_split, total_one,
 use Rattle.nc_code.specs.Parts.{CodeParts, IsCode}
 use Rattle.nc_code.specs.Codes.{code_row, IsPairMds, IsRowWithout}
 use Rattle.nc_matrix.specs.Cells.{row_of, entry}
-use Rattle.nc_matrix.specs.Inverted.{IsRow, IsInverse}
+use Rattle.nc_matrix.specs.Inverted.{IsRowAmong, IsInverse}
 use Rattle.nc_matrix.specs.Products.{IsVector, times, product_entry}
 use Rattle.nc_matrix.proofs.TableLemmas.{unit_same, unit_other}
 use Rattle.nc_matrix.specs.declared.square.Square.{Square}
@@ -97,7 +97,7 @@ relation_sum code square b q v j kept are inverse solved bytes lj =
     ∙ xor_self (image code v (m + j))
 
 relations_full : (code : CodeParts) (square : Square) → 4 ≤ code.width → AreOthers code (code.width - 2) (code.width - 1) square
-    → Independent (native_count code.width) (IsRow (native_count code.width) square.cells) → Independent (native_count code.width) (IsRow (2 * code.width) code.rows)
+    → Independent (native_count code.width) (IsRowAmong (native_count code.width) square.cells) → Independent (native_count code.width) (IsRowAmong (2 * code.width) code.rows)
 relations_full code square wide are free = record {
   only_zeros = λ v bytes sent i li. free.only_zeros v bytes (λ row is. sent row (is.0, omega (arith, is.1), is.2 ∙ first_row code square are is.0 is.1)) i li;
 }
@@ -169,7 +169,7 @@ minor_sent code a b q square v relations less within minor bytes sent j lj =
     ∙ relations.sum v bytes j lj
 
 image_zero : (code : CodeParts) (a b : ℕ) (q : List (List ℕ)) (square : Square) (v : List ℕ) → IsCode code → AreRelations code q → a < b → b < code.width → IsMinor a b q square
-    → Independent 4 (IsRow 4 square.cells) → AreBytes v → AreSent code a b v → (k : ℕ) → k < 2 * code.width → image code v k ≡ 0
+    → Independent 4 (IsRowAmong 4 square.cells) → AreBytes v → AreSent code a b v → (k : ℕ) → k < 2 * code.width → image code v k ≡ 0
 image_zero code a b q square v kept relations less within minor free bytes sent k lk =
     let y_zero : (c : ℕ) → c < 4 → slice_index (four (image code v) a b) c ≡ 0 =
     free.only_zeros (four (image code v) a b) (four_bytes (image code v) a b (λ i. image_lt code v i kept))
@@ -197,9 +197,9 @@ image_zero code a b q square v kept relations less within minor free bytes sent 
     ]
 
 pub pair_free : (code : CodeParts) (a b : ℕ) (q : List (List ℕ)) (square : Square) → IsCode code → AreRelations code q → a < b → b < code.width → IsMinor a b q square
-    → Independent square.size (IsRow square.size square.cells) → IsPairMds code a b
+    → Independent square.size (IsRowAmong square.size square.cells) → IsPairMds code a b
 pair_free code a b q square kept relations less within minor free =
-    let same : Independent 4 (IsRow 4 square.cells) = subst (λ (k : ℕ). Independent k (IsRow k square.cells)) minor.size free in
+    let same : Independent 4 (IsRowAmong 4 square.cells) = subst (λ (k : ℕ). Independent k (IsRowAmong k square.cells)) minor.size free in
     record {
       free = record {
         only_zeros = λ v bytes sent i below.

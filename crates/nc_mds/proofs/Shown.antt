@@ -2,9 +2,9 @@
 use Rattle.std.proofs.Common.{ℕ, List}
 use Rattle.nc_code.specs.Parts.{CodeParts}
 use Rattle.nc_code.specs.Codes.{IsPairMds, IsMds}
-use Rattle.nc_mds.specs.Verdicts.{Shows, IsFirstPair}
+use Rattle.nc_mds.specs.Verdicts.{ShowsDependent, IsFirstPair}
 
-pub shown_dependent : (code : CodeParts) (a b : ℕ) (v : List ℕ) → Shows code a b v → IsPairMds code a b → ⊥
+pub shown_dependent : (code : CodeParts) (a b : ℕ) (v : List ℕ) → ShowsDependent code a b v → IsPairMds code a b → ⊥
 shown_dependent code a b v s mds = s.not_zero (mds.free.only_zeros v s.bytes s.sent s.place s.within)
 
 pub first_not_mds : (code : CodeParts) (a b : ℕ) (v : List ℕ) → IsFirstPair code a b v → IsMds code → ⊥

@@ -5,12 +5,12 @@ use Rattle.std.proofs.lemmas.Bool.{cases_eq}
 use Rattle.std.proofs.lemmas.Bool.Decides.{nat_tests}
 use Rattle.std.proofs.lemmas.List.FromFn.{get_or-map-range_with_len}
 use Rattle.nc_gf256.specs.Field.{mul, total}
-use Rattle.nc_gf256.specs.Rows.{dot}
+use Rattle.nc_gf256.specs.Rows.{dot, unit}
 use Rattle.nc_gf256.specs.Width.{native_count}
 use Rattle.nc_gf256.proofs.FieldLaws.{mul_zero, zero_mul_any, one_mul}
 use Rattle.nc_gf256.proofs.Sums.{total_same, total_one, total_two, total_three}
 use Rattle.nc_code.specs.Codes.{code_row}
-use Rattle.nc_code.specs.Striped.{unit, stripe, striped_entry, striped_row, striped_code}
+use Rattle.nc_code.specs.Striped.{stripe, striped_entry, striped_row, striped_code}
 
 -- ---- entries
 

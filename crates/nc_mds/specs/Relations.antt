@@ -2,13 +2,13 @@
 use Rattle.std.specs.Prelude.{ℕ, ◌≡◌, ◌+◌, ◌-◌, ◌*◌, ◌/◌, ◌%◌, ◌<◌, List, [], ◌∷◌, slice_index}
 use Rattle.nc_bytes.specs.Bytes.{AreBytes}
 use Rattle.nc_gf256.specs.Field.{mul, total}
-use Rattle.nc_gf256.specs.Rows.{Independent, dot}
+use Rattle.nc_gf256.specs.Rows.{Independent, dot, unit}
 use Rattle.nc_gf256.specs.Width.{native_count}
 use Rattle.nc_code.specs.Parts.{CodeParts}
 use Rattle.nc_code.specs.Codes.{code_row}
 use Rattle.nc_matrix.specs.Cells.{row_of, entry}
-use Rattle.nc_matrix.specs.Inverted.{IsRow}
-use Rattle.nc_matrix.specs.Products.{product_entry, unit}
+use Rattle.nc_matrix.specs.Inverted.{IsRowAmong}
+use Rattle.nc_matrix.specs.Products.{product_entry}
 use Rattle.nc_matrix.specs.declared.square.Square.{Square}
 
 -- what row i of a code sends a vector to
@@ -19,7 +19,7 @@ image code v i = dot (native_count code.width) (row_of code.rows i) v
 -- independent.
 pub record AreRelations (code : CodeParts) (relations : List (List ℕ)) : Type 0 where
   pub sum : (v : List ℕ) → AreBytes v → (j : ℕ) → j < 4 → total (2 * code.width) (λ i. mul (entry relations j i) (image code v i)) ≡ 0
-  pub full : Independent (native_count code.width) (IsRow (2 * code.width) code.rows)
+  pub full : Independent (native_count code.width) (IsRowAmong (2 * code.width) code.rows)
 
 -- relation j: row j of the last two clouds times an inverse of the rows of the others, and then row j of the identity
 pub record AreSolved (code : CodeParts) (inverse relations : List (List ℕ)) : Type 0 where

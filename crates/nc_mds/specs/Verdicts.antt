@@ -9,7 +9,7 @@ use Rattle.nc_mds.specs.declared.verdict.Verdict.{Verdict}
 use Rattle.nc_mds.specs.declared.verdict.Verdict.TheVariants.{Mds, Fails}
 
 -- The vector shows that the rows of the clouds other than a and b are dependent: each sends it to 0, and it isn't all 0.
-pub record Shows (code : CodeParts) (a b : ℕ) (v : List ℕ) : Type 0 where
+pub record ShowsDependent (code : CodeParts) (a b : ℕ) (v : List ℕ) : Type 0 where
   pub place : ℕ
   pub within : place < native_count code.width
   pub not_zero : slice_index v place ≢ 0
@@ -21,7 +21,7 @@ pub record Shows (code : CodeParts) (a b : ℕ) (v : List ℕ) : Type 0 where
 pub record IsFirstAfter (code : CodeParts) (a b : ℕ) (v : List ℕ) : Type 0 where
   pub less : a < b
   pub in_width : b < code.width
-  pub shown : Shows code a b v
+  pub shown : ShowsDependent code a b v
   pub between : (d : ℕ) → a < d → d < b → IsPairMds code a d
 
 -- (a, b) is the least pair whose loss leaves dependent rows, by a and then by b

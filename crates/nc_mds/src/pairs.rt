@@ -2,8 +2,8 @@ ghost use Rattle.std.specs.Prelude.{◌≡◌, ◌+◌, ◌-◌, ◌<◌, ◌≤
 ghost use Rattle.nc_gf256.specs.Rows.{Independent};
 ghost use Rattle.nc_gf256.specs.Width.{native_count};
 ghost use Rattle.nc_code.specs.Codes.{IsPairMds};
-ghost use Rattle.nc_matrix.specs.Inverted.{IsRow};
-ghost use Rattle.nc_mds.specs.Verdicts.{Shows, other_cloud};
+ghost use Rattle.nc_matrix.specs.Inverted.{IsRowAmong};
+ghost use Rattle.nc_mds.specs.Verdicts.{ShowsDependent, other_cloud};
 ghost use Rattle.nc_mds.specs.Others.{AreOthers};
 ghost use Rattle.nc_mds.specs.Relations.{AreRelations};
 
@@ -17,7 +17,7 @@ pub fn pair_kernel(code: &Code, relations: &Option<Relations>, a: u8, b: u8) -> 
     requires known { IfSome relations.now (AreRelations code.now) }
     requires less { a < b }
     requires within { b < code.now.width }
-    ensures some { IfSome result (λ kernel. Shows code.now a b kernel) }
+    ensures some { IfSome result (λ kernel. ShowsDependent code.now a b kernel) }
     ensures none { IsNone result → IsPairMds code.now a b }
 {
     let _width = code.width();
@@ -33,7 +33,7 @@ pub fn pair_kernel(code: &Code, relations: &Option<Relations>, a: u8, b: u8) -> 
 }
 
 fn are_independent(square: &Square) -> bool
-    ensures { IsTrue result → Independent square.now.size (IsRow square.now.size square.now.cells) }
+    ensures { IsTrue result → Independent square.now.size (IsRowAmong square.now.size square.now.cells) }
 {
     match invert(square) {
         Outcome::Inverse(_) => true,

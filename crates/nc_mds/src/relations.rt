@@ -2,8 +2,9 @@
 //! four bytes each.
 
 ghost use Rattle.std.specs.Prelude.{◌≡◌, ℕ, ◌+◌, ◌<◌, ◌≤◌, slice_index, IfSome};
+ghost use Rattle.nc_gf256.specs.Rows.{unit};
 ghost use Rattle.nc_gf256.specs.Width.{native_count};
-ghost use Rattle.nc_matrix.specs.Products.{product_entry, unit};
+ghost use Rattle.nc_matrix.specs.Products.{product_entry};
 ghost use Rattle.nc_mds.specs.Relations.{AreRelations, AreSolved, IsMinor, four};
 
 use crate::pairs::without;

@@ -16,7 +16,7 @@ use Rattle.nc_code.specs.Parts.{CodeParts, IsCode}
 use Rattle.nc_code.specs.Codes.{code_row, IsMds, IsPairMds}
 use Rattle.nc_matrix.specs.Cells.{row_of, entry}
 use Rattle.nc_matrix.specs.Products.{IsVector, times}
-use Rattle.nc_matrix.specs.Inverted.{IsInverse, IsRow}
+use Rattle.nc_matrix.specs.Inverted.{IsInverse, IsRowAmong}
 use Rattle.nc_mix.specs.declared.pieces.Piece.{Piece}
 use Rattle.nc_mix.specs.Mixing.{mixed_byte, mixed}
 use Rattle.nc_mix.specs.Decoding.{IsPieceOf, IsLong, IsBefore, chunks_in, HoldsRows, solved}
@@ -151,7 +151,7 @@ file_back code v pieces a b rows size len s many same is_size is_len =
 -- ---- the rows are independent
 
 pub free_rows : (code : CodeParts) (pieces : List Piece) (a : List (List ℕ)) → IsMds code → length pieces + 2 ≡ code.width → AllPairs IsBefore pieces → All (λ x. x.cloud < code.width) pieces → HoldsRows code pieces a →
-    Independent (native_count code.width) (IsRow (native_count code.width) a)
+    Independent (native_count code.width) (IsRowAmong (native_count code.width) a)
 free_rows code pieces a mds count ascending in_width holds =
     let k : ℕ = length pieces in
     let f : ℕ → ℕ = λ p. (get_or pieces p no_piece).cloud in

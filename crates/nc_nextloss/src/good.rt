@@ -64,7 +64,7 @@ pub fn confirm(code: &Code, witnesses: &Witnesses) -> Option<GoodCode>
     ensures none { IsNone result → IsGood code.now witnesses.now → ⊥ }
 {
     let _width = code.width();
-    witnesses.kept();
+    witnesses.told_count();
     match check(code) {
         Verdict::Mds => {}
         Verdict::Fails { .. } => return None,
@@ -95,7 +95,7 @@ fn is_plan_for(code: &Code, lost: u8, plan: &Plan) -> bool
 fn is_bare(width: u8, lost: u8, plan: &Plan) -> bool
     ensures { IsTrue result ↔ IsBare width lost plan.now }
 {
-    plan.kept();
+    plan.told_plan();
     for t in 0..10u8 {
         if (t == lost || width <= t) && !is_blank(plan, t) {
             return false;

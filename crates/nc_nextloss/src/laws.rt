@@ -21,6 +21,6 @@ pub fn check_striped_repair(width: u8, lost: u8, plan: &Plan) -> Verdict
     ensures verdict { IsVerdict (repaired (striped_code width) lost plan.now) result }
     ensures fails { IsFails result }
 {
-    plan.kept();
+    plan.told_plan();
     check_witness(&striped(width), lost, plan)
 }

@@ -94,7 +94,7 @@ fn repair_plan(width: u8, stored: Option<&Plan>, lost: u8, index: u16, block: &[
     match stored {
         None => drawn_plan(width, lost, &[0; 10], block, 0),
         Some(plan) => {
-            plan.kept();
+            plan.told_plan();
             if index == 0 {
                 *plan
             } else {
@@ -112,7 +112,7 @@ fn good_repair(code: &Code, lost: u8, plan: &Plan, block: &[u8]) -> Option<GoodC
     ensures some { IfSome result (IsRepairOf code.now lost plan.now block.now) }
     ensures none { IsNone result → IsGoodRepair code.now lost plan.now block.now → ⊥ }
 {
-    plan.kept();
+    plan.told_plan();
     let width = code.width();
     let again = repaired(code, lost, plan);
     match check(&again) {
@@ -172,7 +172,7 @@ fn turned_choice(lost: u8, plan: &Plan, t: u8) -> u8
     requires { t < 10 }
     ensures { result ≡ turned_choice lost plan.now t }
 {
-    plan.kept();
+    plan.told_plan();
     if t == lost {
         0
     } else {

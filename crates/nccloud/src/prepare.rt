@@ -118,8 +118,8 @@ fn told_plans(witnesses: &Witnesses)
     ensures count { length witnesses.now.plans ≡ 10 }
     ensures plans { (lost : ℕ) → lost < 10 → IsPlan (plan_of witnesses.now lost) }
 {
-    witnesses.kept();
+    witnesses.told_count();
     for lost in 0..10u8 {
-        witnesses.plan(lost).kept();
+        witnesses.plan(lost).told_plan();
     }
 }

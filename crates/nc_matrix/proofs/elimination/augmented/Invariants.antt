@@ -1,6 +1,6 @@
 use Rattle.std.proofs.Common.{◌≡◌, ℕ, ◌+◌, ◌<◌, length}
 use Rattle.nc_matrix.specs.Cells.{entry}
-use Rattle.nc_matrix.specs.Products.{unit}
+use Rattle.nc_gf256.specs.Rows.{unit}
 use Rattle.nc_matrix.proofs.elimination.augmented.Given as goal
 
 abbrev pub invariant-loop-i : goal.invariant-loop-i

@@ -1,8 +1,9 @@
 use Rattle.std.proofs.Common.{◌≡◌, ℕ, ◌+◌, ◌-◌, ◌/◌, ◌%◌, ◌<◌, length}
+use Rattle.nc_gf256.specs.Rows.{unit}
 use Rattle.nc_gf256.specs.Width.{native_count}
 use Rattle.nc_code.specs.Codes.{code_row}
 use Rattle.nc_matrix.specs.Cells.{entry}
-use Rattle.nc_matrix.specs.Products.{product_entry, unit}
+use Rattle.nc_matrix.specs.Products.{product_entry}
 use Rattle.nc_mds.proofs.relations.solved.Given as goal
 
 abbrev pub invariant-loop-j : goal.invariant-loop-j

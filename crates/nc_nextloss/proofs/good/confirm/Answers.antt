@@ -15,8 +15,8 @@ loop-lost-preserved c =
 
 pub invariant_of-result : goal.invariant_of-result
 invariant_of-result c =
-    good_of c.args.code.now c.args.witnesses.now c.loop-lost.lost c.width-width.ensures.kept c.kept.ensures (omega arith) c.in-Mds.ensures.verdict c.loop-lost.invariant
+    good_of c.args.code.now c.args.witnesses.now c.loop-lost.lost c.width-width.ensures.kept c.told_count.ensures (omega arith) c.in-Mds.ensures.verdict c.loop-lost.invariant
 
 pub returns-clause-good : goal.returns-clause-good
 returns-clause-good c =
-    good_of c.args.code.now c.args.witnesses.now c.loop-lost.lost c.width-width.ensures.kept c.kept.ensures (omega arith) c.in-Mds.ensures.verdict c.loop-lost.invariant
+    good_of c.args.code.now c.args.witnesses.now c.loop-lost.lost c.width-width.ensures.kept c.told_count.ensures (omega arith) c.in-Mds.ensures.verdict c.loop-lost.invariant

@@ -13,5 +13,5 @@ returns-clause-verdict c =
 pub returns-clause-fails : goal.returns-clause-fails
 returns-clause-fails c =
     fails_of (repaired c.striped.result c.args.lost c.args.plan.now) c.check_witness.result c.check_witness.ensures.verdict
-    (λ mds. no_witness c.args.width c.args.lost c.args.plan.now c.requires.wide c.requires.narrow c.requires.lost c.kept.ensures
+    (λ mds. no_witness c.args.width c.args.lost c.args.plan.now c.requires.wide c.requires.narrow c.requires.lost c.told_plan.ensures
     (record { mds = subst (λ (x : CodeParts). IsMds (repaired x c.args.lost c.args.plan.now)) c.striped.ensures.code mds }))

@@ -12,7 +12,7 @@ loop-next-preserved c =
 
 pub new-requires : goal.new-requires
 new-requires c =
-    repair_good c.args.code.now c.args.lost c.args.plan.now c.args.block.now c.repaired-again.result (record { plans = c.loop-next.plans }) c.kept.ensures c.requires.bare
+    repair_good c.args.code.now c.args.lost c.args.plan.now c.args.block.now c.repaired-again.result (record { plans = c.loop-next.plans }) c.told_plan.ensures c.requires.bare
     c.repaired-again.ensures.code c.in-Mds.ensures.verdict
     (all_plans (IsNextPlan c.args.code.now c.args.lost c.args.plan.now c.args.block.now) c.loop-next.plans c.loop-next.next c.args.code.now.width (omega arith) (omega arith) c.loop-next.invariant)
 
