@@ -8,7 +8,10 @@ ghost use Rattle.nc_gf256.specs.Field.{mul};
 use tables::{logarithm, power};
 
 pub mod laws;
+mod rows;
 mod tables;
+
+pub use rows::plus_times;
 
 /// The sum of two elements, which is also their difference.
 pub fn add(a: u8, b: u8) -> u8

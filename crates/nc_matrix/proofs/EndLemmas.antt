@@ -6,12 +6,12 @@ use Rattle.nc_bytes.specs.Bytes.{AreBytes}
 use Rattle.nc_gf256.specs.Field.{mul, total}
 use Rattle.nc_gf256.specs.Rows.{Independent, unit}
 use Rattle.nc_gf256.proofs.FieldLaws.{mul_zero, mul_one, one_mul, zero_mul_any}
-use Rattle.nc_gf256.proofs.Sums.{total_same, total_split, total_none, total_one, total_two, same_of_xor}
+use Rattle.nc_gf256.proofs.Sums.{total_same, total_split, total_none, total_two, same_of_xor}
 use Rattle.nc_matrix.specs.Cells.{row_of, entry}
 use Rattle.nc_matrix.specs.Products.{IsVector, times}
 use Rattle.nc_matrix.specs.Elimination.{AreRows, Solves, IsReduced, IsStep, IsAugmented, IsReadOff}
 use Rattle.nc_matrix.specs.Inverted.{IsRowAmong, IsInverse, IsKernel}
-use Rattle.nc_matrix.proofs.TableLemmas.{unit_same, unit_other, unit_lt}
+use Rattle.nc_gf256.proofs.Units.{unit_same, unit_other, unit_lt, unit_times, times_unit}
 
 -- two vectors of n entries as one of 2n
 joined : ℕ → (ℕ → ℕ) → (ℕ → ℕ) → ℕ → ℕ
@@ -39,22 +39,6 @@ joined_bytes n x y bx by k lt = elim (cases_lt k n) [
 -- a product reads the first m entries of a vector
 times_same : (m : ℕ) (rows : List (List ℕ)) (i : ℕ) (x y : ℕ → ℕ) → ((k : ℕ) → k < m → x k ≡ y k) → times m rows i x ≡ times m rows i y
 times_same m rows i x y h = total_same m (λ k. mul (entry rows i k) (x k)) (λ k. mul (entry rows i k) (y k)) (λ k lk. ap (mul (entry rows i k)) (h k lk))
-
--- row i of the identity picks entry i
-unit_times : (n i : ℕ) (f z : ℕ → ℕ) → i < n → ((k : ℕ) → k < n → f k ≡ unit i k) → z i < 256 → total n (λ k. mul (f k) (z k)) ≡ z i
-unit_times n i f z li h byte =
-    total_one n (λ k. mul (f k) (z k)) i li
-    (λ k lk ne. ap (λ x. mul x (z k)) (h k lk ∙ unit_other i k (λ e. ne (sym e))) ∙ zero_mul_any (z k))
-    ∙ ap (λ x. mul x (z i)) (h i li ∙ unit_same i)
-    ∙ one_mul (z i) byte
-
--- and so does column k
-times_unit : (n k : ℕ) (f : ℕ → ℕ) → k < n → f k < 256 → total n (λ j. mul (f j) (unit j k)) ≡ f k
-times_unit n k f lk byte =
-    total_one n (λ j. mul (f j) (unit j k)) k lk
-    (λ j lj ne. ap (mul (f j)) (unit_other j k ne) ∙ mul_zero (f j))
-    ∙ ap (mul (f k)) (unit_same k)
-    ∙ mul_one (f k) byte
 
 -- ---- the first and the last table
 

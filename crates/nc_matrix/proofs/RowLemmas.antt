@@ -1,32 +1,10 @@
 -- Rows read at every place: past their end both sides of a fact are 0.
-use Rattle.std.proofs.Common.{◌≡◌, ℕ, ◌<◌, ◌≤◌, List, length, slice_index, slice_set, replicate, sym, ap, ◌∙◌, arith, inl, inr, get_or-set_other, get_or-set_same}
+use Rattle.std.proofs.Common.{◌≡◌, ℕ, ◌<◌, ◌≤◌, List, length, slice_index, slice_set, sym, ap, ◌∙◌, arith, inl, inr, get_or-set_other, get_or-set_same}
 use Rattle.std.proofs.lemmas.Bool.{cases_lt, cases_eq}
-use Rattle.std.proofs.lemmas.List.{get_or_past, get_or-replicate, length-replicate}
-use lib.Bits.{bit_xor}
 use Rattle.nc_bytes.specs.Bytes.{AreBytes}
 use Rattle.nc_gf256.specs.Field.{mul}
 use Rattle.nc_gf256.proofs.FieldLaws.{mul_lt, mul_zero}
-use Rattle.nc_gf256.proofs.Sums.{xor_byte}
-
-pub zero_past_end : (xs : List ℕ) (m i : ℕ) → length xs ≡ m → m ≤ i → slice_index xs i ≡ 0
-zero_past_end xs m i h le = get_or_past xs i 0 (omega (arith, h))
-
--- a row of zeros is 0 at every place
-pub zeros_everywhere : (m i : ℕ) → slice_index (replicate m 0) i ≡ 0
-zeros_everywhere m i = elim (cases_lt i m) [
-  | inl lt ↦ get_or-replicate m i 0 0 lt
-  | inr past ↦ get_or_past (replicate m 0) i 0 (omega (arith, length-replicate {A = ℕ} m 0))
-]
-
-pub sum_everywhere : (m : ℕ) (s row other : List ℕ) (t : ℕ) → length s ≡ m → length row ≡ m → length other ≡ m → ((i : ℕ) → i < m → slice_index s i ≡ bit_xor (slice_index row i) (mul t (slice_index other i))) → (i : ℕ) → slice_index s i ≡ bit_xor (slice_index row i) (mul t (slice_index other i))
-sum_everywhere m s row other t ls lr lo h i = elim (cases_lt i m) [
-  | inl lt ↦ h i lt
-  | inr past ↦
-      zero_past_end s m i ls past
-      ∙ sym (mul_zero t)
-      ∙ ap (mul t) (sym (zero_past_end other m i lo past))
-      ∙ ap (λ x. bit_xor x (mul t (slice_index other i))) (sym (zero_past_end row m i lr past))
-]
+use Rattle.nc_gf256.proofs.RowSums.{zero_past_end}
 
 pub product_everywhere : (m : ℕ) (p row : List ℕ) (t : ℕ) → length p ≡ m → length row ≡ m → ((i : ℕ) → i < m → slice_index p i ≡ mul t (slice_index row i)) → (i : ℕ) → slice_index p i ≡ mul t (slice_index row i)
 product_everywhere m p row t lp lr h i = elim (cases_lt i m) [
@@ -36,10 +14,6 @@ product_everywhere m p row t lp lr h i = elim (cases_lt i m) [
       ∙ sym (mul_zero t)
       ∙ ap (mul t) (sym (zero_past_end row m i lr past))
 ]
-
-pub sum_bytes : (s row other : List ℕ) (t : ℕ) → t < 256 → AreBytes row → ((i : ℕ) → slice_index s i ≡ bit_xor (slice_index row i) (mul t (slice_index other i))) → AreBytes s
-sum_bytes s row other t lt rows h i =
-    rw (h i) (xor_byte (slice_index row i) (mul t (slice_index other i)) (rows i) (mul_lt t (slice_index other i) lt))
 
 pub product_bytes : (p row : List ℕ) (t : ℕ) → t < 256 → ((i : ℕ) → slice_index p i ≡ mul t (slice_index row i)) → AreBytes p
 product_bytes p row t lt h i = rw (h i) (mul_lt t (slice_index row i) lt)

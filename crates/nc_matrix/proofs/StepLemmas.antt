@@ -9,7 +9,8 @@ use Rattle.nc_gf256.specs.Rows.{unit}
 use Rattle.nc_matrix.specs.Cells.{entry}
 use Rattle.nc_matrix.specs.Products.{IsVector, times}
 use Rattle.nc_matrix.specs.Elimination.{AreRows, SameSolutions, IsReduced, IsStep, IsSheared, IsScaled, IsPivot, IsNormalized, lifting, clearing}
-use Rattle.nc_matrix.proofs.TableLemmas.{unit_same, unit_other, unit_lt, add_none, lifting_none, lifting_some, clearing_here, clearing_other}
+use Rattle.nc_gf256.proofs.Units.{unit_same, unit_other, unit_lt}
+use Rattle.nc_matrix.proofs.TableLemmas.{add_none, lifting_none, lifting_some, clearing_here, clearing_other}
 
 -- ---- the vectors sent to 0
 

@@ -1,26 +1,15 @@
 -- Entries of the identity, and of tables after a row is replaced.
-use Rattle.std.proofs.Common.{◌≡◌, ◌≢◌, ℕ, ◌<◌, ◌==◌, List, [], length, replicate, slice_index, slice_set, refl, sym, ap, ◌∙◌, arith, inl, inr, get_or-set_other, get_or-set_same, eq-eqb, ne_eqb}
+use Rattle.std.proofs.Common.{◌≡◌, ◌≢◌, ℕ, ◌<◌, ◌==◌, List, [], length, replicate, slice_index, slice_set, refl, sym, ap, ◌∙◌, inl, inr, get_or-set_other, get_or-set_same, eq-eqb, ne_eqb}
 use Rattle.std.proofs.lemmas.Bool.{cases_lt, cases_eq, cond-true, cond-false}
 use lib.Bits.{bit_xor, xor_zero_r}
 use Rattle.nc_gf256.specs.Field.{mul}
 use Rattle.nc_gf256.proofs.FieldLaws.{zero_mul_any}
 use Rattle.std.proofs.lemmas.List.{get_or_past, get_or-replicate}
-use Rattle.nc_matrix.proofs.RowLemmas.{zeros_everywhere}
+use Rattle.nc_gf256.proofs.RowSums.{zeros_everywhere}
+use Rattle.nc_gf256.proofs.Units.{unit_same, unit_other}
 use Rattle.nc_matrix.specs.Cells.{entry}
 use Rattle.nc_gf256.specs.Rows.{unit}
 use Rattle.nc_matrix.specs.Elimination.{IsSheared, lifting, clearing}
-
-pub unit_same : (i : ℕ) → unit i i ≡ 1
-unit_same i = cond-true (i == i) 1 0 (eq-eqb i i refl)
-
-pub unit_other : (i k : ℕ) → i ≢ k → unit i k ≡ 0
-unit_other i k ne = cond-false (i == k) 1 0 (ne_eqb i k ne)
-
-pub unit_lt : (i k : ℕ) → unit i k < 256
-unit_lt i k = elim (cases_eq i k) [
-  | inl e ↦ rw (e, unit_same k) (omega arith)
-  | inr ne ↦ rw (unit_other i k ne) (omega arith)
-]
 
 pub entry-set_same : (rows : List (List ℕ)) (i : ℕ) (row : List ℕ) (k : ℕ) → i < length rows → entry (slice_set rows i row) i k ≡ slice_index row k
 entry-set_same rows i row k lt = ap (λ r. slice_index r k) (get_or-set_same rows i row [] lt)

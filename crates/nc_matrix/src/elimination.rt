@@ -5,9 +5,9 @@ ghost use Rattle.nc_bytes.specs.Bytes.{AreBytes};
 ghost use Rattle.nc_matrix.specs.Cells.{entry};
 ghost use Rattle.nc_matrix.specs.Elimination.{AreRows, IsAugmented, IsNormalized, IsPivot, IsReadOff, IsReduced, IsScaled, IsSheared, IsStep, clearing, lifting};
 
-use super::rows::{augmented_row, multiple, plus_times, right_row};
+use super::rows::{augmented_row, multiple, right_row};
 use super::square::Square;
-use nc_gf256::inv;
+use nc_gf256::{inv, plus_times};
 
 /// The square's rows with those of the identity beside them.
 pub fn augmented(a: &Square) -> [[u8; 32]; 16]

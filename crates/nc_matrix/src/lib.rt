@@ -8,7 +8,8 @@ ghost use Rattle.nc_matrix.specs.Inverted.{IsInverted};
 
 use elimination::{augmented, kernel, pivot_row, right_half, step};
 pub use outcome::Outcome;
-use products::{dot, row_times};
+use products::dot;
+pub use products::row_times;
 pub use square::Square;
 
 mod elimination;

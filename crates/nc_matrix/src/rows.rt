@@ -1,23 +1,11 @@
 //! Rows of 32 bytes, made from others.
 
-ghost use Rattle.std.specs.Prelude.{◌≡◌, ℕ, ◌+◌, ◌<◌, ◌≤◌, slice_index, bit_xor};
+ghost use Rattle.std.specs.Prelude.{◌≡◌, ℕ, ◌+◌, ◌<◌, ◌≤◌, slice_index};
 ghost use Rattle.nc_bytes.specs.Bytes.{AreBytes};
 ghost use Rattle.nc_gf256.specs.Field.{mul};
 ghost use Rattle.nc_gf256.specs.Rows.{unit};
 
-use nc_gf256::{add, mul};
-
-/// The row with `t` times another row added to it.
-pub fn plus_times(row: &[u8; 32], other: &[u8; 32], t: u8) -> [u8; 32]
-    ensures bytes { AreBytes result }
-    ensures sums { (k : ℕ) → slice_index result k ≡ bit_xor (slice_index row.now k) (mul t (slice_index other.now k)) }
-{
-    let mut sum = *row;
-    for k in 0..32usize {
-        sum[k] = add(row[k], mul(t, other[k]));
-    }
-    sum
-}
+use nc_gf256::mul;
 
 /// The row multiplied by `t`.
 pub fn multiple(row: &[u8; 32], t: u8) -> [u8; 32]

@@ -27,7 +27,7 @@ fn square(first: [u8; 16], second: [u8; 16]) -> Square
 }
 
 #[test]
-fn inverts_independent_rows(rt: HostRuntime) {
+fn inverts_independent_rows_and_shows_that_others_are_dependent(rt: HostRuntime) {
     match invert(&square(row(0x01, 0x01), row(0x01, 0x02))) {
         Outcome::Inverse(b) => {
             let cells = b.cells;
@@ -36,10 +36,6 @@ fn inverts_independent_rows(rt: HostRuntime) {
         }
         Outcome::Kernel(_) => assert!(rt; false),
     }
-}
-
-#[test]
-fn shows_that_rows_are_dependent(rt: HostRuntime) {
     match invert(&square(row(0x01, 0x02), row(0x02, 0x04))) {
         Outcome::Inverse(_) => assert!(rt; false),
         Outcome::Kernel(v) => {
@@ -57,4 +53,5 @@ fn multiplies_squares_and_vectors(rt: HostRuntime) {
     assert_eq!(rt; cells[0], row(0x1D, 0x02));
     assert_eq!(rt; cells[1], row(0x9C, 0x8D));
     assert_eq!(rt; apply(&a, &row(0x80, 0x01)), row(0x1D, 0x9C));
+    assert_eq!(rt; row_times(&row(0x02, 0x00), &b), row(0x1D, 0x02));
 }

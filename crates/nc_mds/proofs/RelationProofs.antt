@@ -14,7 +14,7 @@ use Rattle.nc_code.specs.Codes.{code_row, IsPairMds, IsRowWithout}
 use Rattle.nc_matrix.specs.Cells.{row_of, entry}
 use Rattle.nc_matrix.specs.Inverted.{IsRowAmong, IsInverse}
 use Rattle.nc_matrix.specs.Products.{IsVector, times, product_entry}
-use Rattle.nc_matrix.proofs.TableLemmas.{unit_same, unit_other}
+use Rattle.nc_gf256.proofs.Units.{unit_same, unit_other}
 use Rattle.nc_matrix.specs.declared.square.Square.{Square}
 use Rattle.nc_mds.specs.Others.{AreOthers}
 use Rattle.nc_mds.specs.Relations.{image, AreRelations, AreSolved, four, IsMinor}

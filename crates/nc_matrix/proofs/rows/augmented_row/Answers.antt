@@ -1,5 +1,6 @@
 use Rattle.std.proofs.Common.{arith, refl, ◌+◌}
-use Rattle.nc_matrix.proofs.RowLemmas.{zeros_everywhere, front_bytes, set_bytes}
+use Rattle.nc_gf256.proofs.RowSums.{zeros_everywhere}
+use Rattle.nc_matrix.proofs.RowLemmas.{front_bytes, set_bytes}
 use Rattle.nc_matrix.proofs.rows.augmented_row.Goals as goal
 
 pub loop-k-init : goal.loop-k-init

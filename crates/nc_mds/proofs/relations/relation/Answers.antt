@@ -1,5 +1,5 @@
 use Rattle.std.proofs.Common.{refl, arith}
-use Rattle.nc_matrix.proofs.RowLemmas.{zeros_everywhere}
+use Rattle.nc_gf256.proofs.RowSums.{zeros_everywhere}
 use Rattle.nc_mds.proofs.relations.relation.Goals as goal
 
 pub loop-i-init : goal.loop-i-init
