@@ -1,6 +1,5 @@
 pub mod RepairDots
 pub mod RepairLemmas
 pub mod FilledRows
-pub mod RowSums
 pub mod SameParts
 pub mod StripedParts

@@ -1,6 +1,7 @@
 -- What is said of codes: their rows, when they are MDS, repairs and witnesses.
 use Rattle.std.specs.Prelude.{ℕ, ◌≡◌, ◌≢◌, ◌+◌, ◌*◌, ◌<◌, ◌≤◌, ◌==◌, List, [], map, replicate, slice_index, slice_index_or, slice_set, if◌then◌else◌}
 use Rattle.std.specs.List.{range_with_len}
+use Rattle.nc_bytes.specs.Bytes.{IsZeroPast}
 use Rattle.nc_gf256.specs.Field.{mul, total}
 use Rattle.nc_gf256.specs.Rows.{Independent}
 use Rattle.nc_gf256.specs.Width.{native_count}
@@ -57,6 +58,6 @@ no_plan = record { choice = replicate 10 0; coefs = replicate 2 (replicate 10 0)
 -- what a stored plan for this loss doesn't say is 0: the entries of the lost cloud and those past the width
 pub record IsBare (n lost : ℕ) (plan : PlanParts) : Type 0 where
   pub choice : slice_index plan.choice lost ≡ 0
-  pub choice_past : (t : ℕ) → n ≤ t → slice_index plan.choice t ≡ 0
+  pub choice_past : IsZeroPast n plan.choice
   pub coefs : (r : ℕ) → slice_index (slice_index_or plan.coefs r []) lost ≡ 0
-  pub coefs_past : (r t : ℕ) → n ≤ t → slice_index (slice_index_or plan.coefs r []) t ≡ 0
+  pub coefs_past : (r : ℕ) → IsZeroPast n (slice_index_or plan.coefs r [])

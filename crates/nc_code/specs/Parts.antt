@@ -1,6 +1,6 @@
 -- What codes and plans are made of.
 use Rattle.std.specs.Prelude.{ℕ, ◌≡◌, ◌*◌, ◌<◌, ◌≤◌, List, [], length, slice_index, slice_index_or}
-use Rattle.nc_bytes.specs.Bytes.{AreBytes}
+use Rattle.nc_bytes.specs.Bytes.{AreBytes, IsZeroPast, AreZeroPast}
 use Rattle.nc_gf256.specs.Width.{native_count}
 
 -- a code: row r of cloud c is row 2c + r
@@ -29,8 +29,8 @@ pub record IsCode (code : CodeParts) : Type 0 where
   pub wide : 4 ≤ code.width
   pub narrow : code.width ≤ 10
   pub shape : IsTable 20 16 code.rows
-  pub zero_past : (i k : ℕ) → native_count code.width ≤ k → slice_index (slice_index_or code.rows i []) k ≡ 0
-  pub rows_past : (i k : ℕ) → 2 * code.width ≤ i → slice_index (slice_index_or code.rows i []) k ≡ 0
+  pub zero_past : (i : ℕ) → IsZeroPast (native_count code.width) (slice_index_or code.rows i [])
+  pub rows_past : AreZeroPast (2 * code.width) code.rows
 
 -- what the type of plans keeps: a choice is 0 or 1
 pub record IsPlan (plan : PlanParts) : Type 0 where

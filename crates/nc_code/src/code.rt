@@ -1,4 +1,5 @@
-ghost use Rattle.std.specs.Prelude.{◌≡◌, ◌↔◌, ◌*◌, ◌<◌, ◌≤◌, ℕ, [], IsTrue, slice_index, slice_index_or};
+ghost use Rattle.std.specs.Prelude.{◌≡◌, ◌↔◌, ◌*◌, ◌<◌, ◌≤◌, ℕ, [], IsTrue, slice_index_or};
+ghost use Rattle.nc_bytes.specs.Bytes.{IsZeroPast, AreZeroPast};
 ghost use Rattle.nc_gf256.specs.Width.{native_count};
 ghost use Rattle.nc_code.specs.Parts.{IsCode};
 ghost use Rattle.nc_code.specs.Codes.{code_row};
@@ -32,8 +33,8 @@ impl Code {
     pub fn new(width: u8, rows: &[[u8; 16]; 20]) -> Code
         requires wide { 4 ≤ width }
         requires narrow { width ≤ 10 }
-        requires zero_past { (i k : ℕ) → native_count width ≤ k → slice_index (slice_index_or rows.now i []) k ≡ 0 }
-        requires rows_past { (i k : ℕ) → 2 * width ≤ i → slice_index (slice_index_or rows.now i []) k ≡ 0 }
+        requires zero_past { (i : ℕ) → IsZeroPast (native_count width) (slice_index_or rows.now i []) }
+        requires rows_past { AreZeroPast (2 * width) rows.now }
         ensures parts { result ≡ record { width = width; rows = rows.now } }
         ensures kept { IsCode result }
     {

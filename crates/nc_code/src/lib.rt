@@ -27,61 +27,43 @@ mod tests {
     }
 
     #[test]
-    fn stripes_of_four_clouds(rt: HostRuntime) {
-        let rows = striped(4).rows;
-        assert_eq!(rt; rows[0], [1, 0, 0, 0, 0, 0, 0, 0, 0, 0, 0, 0, 0, 0, 0, 0]);
-        assert_eq!(rt; rows[3], [0, 0, 0, 1, 0, 0, 0, 0, 0, 0, 0, 0, 0, 0, 0, 0]);
-        assert_eq!(rt; rows[4], [1, 0, 1, 0, 0, 0, 0, 0, 0, 0, 0, 0, 0, 0, 0, 0]);
-        assert_eq!(rt; rows[5], [0, 1, 0, 1, 0, 0, 0, 0, 0, 0, 0, 0, 0, 0, 0, 0]);
-        assert_eq!(rt; rows[6], [1, 0, 2, 0, 0, 0, 0, 0, 0, 0, 0, 0, 0, 0, 0, 0]);
-        assert_eq!(rt; rows[7], [0, 1, 0, 2, 0, 0, 0, 0, 0, 0, 0, 0, 0, 0, 0, 0]);
-        assert_eq!(rt; rows[8], [0; 16]);
-    }
-
-    #[test]
-    fn stripes_of_ten_clouds(rt: HostRuntime) {
-        let code = striped(10);
-        assert_eq!(rt; code.width(), 10);
-        assert_eq!(rt;
-            code.row(7, 1),
-            [0, 0, 0, 0, 0, 0, 0, 0, 0, 0, 0, 0, 0, 0, 0, 1]
-        );
-        assert_eq!(rt;
-            code.row(8, 0),
-            [1, 0, 1, 0, 1, 0, 1, 0, 1, 0, 1, 0, 1, 0, 1, 0]
-        );
-        assert_eq!(rt;
-            code.row(9, 1),
-            [0, 1, 0, 2, 0, 4, 0, 8, 0, 16, 0, 32, 0, 64, 0, 128]
-        );
+    fn rows_of_stripes(rt: HostRuntime) {
+        for (width, cloud, pair, row) in [
+            (4, 0, 0, [1, 0, 0, 0, 0, 0, 0, 0, 0, 0, 0, 0, 0, 0, 0, 0]),
+            (4, 1, 1, [0, 0, 0, 1, 0, 0, 0, 0, 0, 0, 0, 0, 0, 0, 0, 0]),
+            (4, 2, 0, [1, 0, 1, 0, 0, 0, 0, 0, 0, 0, 0, 0, 0, 0, 0, 0]),
+            (4, 3, 1, [0, 1, 0, 2, 0, 0, 0, 0, 0, 0, 0, 0, 0, 0, 0, 0]),
+            (10, 7, 1, [0, 0, 0, 0, 0, 0, 0, 0, 0, 0, 0, 0, 0, 0, 0, 1]),
+            (10, 8, 0, [1, 0, 1, 0, 1, 0, 1, 0, 1, 0, 1, 0, 1, 0, 1, 0]),
+            (
+                10,
+                9,
+                1,
+                [0, 1, 0, 2, 0, 4, 0, 8, 0, 16, 0, 32, 0, 64, 0, 128],
+            ),
+        ] {
+            assert_eq!(rt;
+                striped(width).row(cloud, pair),
+                row,
+                "row {pair} of cloud {cloud} at width {width}"
+            );
+        }
     }
 
     #[test]
     fn a_repair_writes_the_rows_of_the_lost_cloud(rt: HostRuntime) {
         let code = striped(4);
         let again = repaired(&code, 0, &worked_plan());
-        assert_eq!(rt;
-            again.row(0, 0),
-            [1, 0, 5, 0, 0, 0, 0, 0, 0, 0, 0, 0, 0, 0, 0, 0]
-        );
-        assert_eq!(rt;
-            again.row(0, 1),
-            [0, 0, 3, 0, 0, 0, 0, 0, 0, 0, 0, 0, 0, 0, 0, 0]
-        );
-        assert_eq!(rt; again.row(3, 0), code.row(3, 0));
+        for (cloud, pair, row) in [
+            (0, 0, [1, 0, 5, 0, 0, 0, 0, 0, 0, 0, 0, 0, 0, 0, 0, 0]),
+            (0, 1, [0, 0, 3, 0, 0, 0, 0, 0, 0, 0, 0, 0, 0, 0, 0, 0]),
+            (3, 0, code.row(3, 0)),
+        ] {
+            assert_eq!(rt; again.row(cloud, pair), row, "row {pair} of cloud {cloud}");
+        }
         assert!(rt; !same_code(&again, &code));
         assert!(rt; same_code(&repaired(&again, 0, &worked_plan()), &again));
-    }
-
-    #[test]
-    fn a_plan_of_zeros_writes_zeros(rt: HostRuntime) {
-        let witnesses = Witnesses {
-            plans: [Plan::none(); 10],
-        };
-        assert_eq!(rt;
-            repaired(&striped(5), 4, witnesses.plan(4)).row(4, 1),
-            [0; 16]
-        );
+        assert_eq!(rt; repaired(&code, 3, &Plan::none()).row(3, 1), [0; 16]);
     }
 
     #[test]
@@ -93,6 +75,6 @@ mod tests {
         assert!(rt; same_witnesses(&one, &other));
         one.plans[9] = worked_plan();
         assert!(rt; !same_witnesses(&one, &other));
-        assert!(rt; !same_plan(&worked_plan(), &Plan::none()));
+        assert!(rt; !same_plan(one.plan(9), &Plan::none()));
     }
 }

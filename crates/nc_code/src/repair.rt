@@ -1,11 +1,11 @@
 ghost use Rattle.std.specs.Prelude.{◌≡◌, ◌+◌, ◌*◌, ◌<◌, ◌≤◌, ℕ, slice_index, bit_xor};
-ghost use Rattle.nc_gf256.specs.Field.{mul};
 ghost use Rattle.nc_code.specs.Parts.{IsCode};
 ghost use Rattle.nc_code.specs.Codes.{repaired, repaired_row, term};
 ghost use Rattle.nc_code.specs.RepairLaw.{RepairedTwice};
 
 use crate::code::Code;
 use crate::plan::Plan;
+use nc_gf256::plus_times;
 
 /// The code after the repair of cloud `lost` by a plan: row `r` of this cloud becomes the sum, over the survivors `t`, of
 /// `plan.coefs[r][t]` times row `plan.choice[t]` of cloud `t`. All other rows stay. The plan's entries for the lost cloud and
@@ -48,17 +48,6 @@ fn with_cloud(code: &Code, lost: u8, plan: &Plan, r: u8, t: u8, row: &[u8; 16]) 
     }
     let chosen = code.row(t, plan.choice[t as usize]);
     plus_times(row, &chosen, plan.coefs[r as usize][t as usize])
-}
-
-/// A row plus `factor` times another.
-fn plus_times(row: &[u8; 16], other: &[u8; 16], factor: u8) -> [u8; 16]
-    ensures { (k : ℕ) → slice_index result k ≡ bit_xor (slice_index row.now k) (mul factor (slice_index other.now k)) }
-{
-    let mut sum = *row;
-    for k in 0..16 {
-        sum[k] = nc_gf256::add(row[k], nc_gf256::mul(factor, other[k]));
-    }
-    sum
 }
 
 /// Repairing twice by one plan gives what repairing once gives.

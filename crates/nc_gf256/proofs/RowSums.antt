@@ -1,5 +1,5 @@
 -- Rows read at every place: past their end both sides of a fact are 0.
-use Rattle.std.proofs.Common.{◌≡◌, ℕ, ◌<◌, ◌≤◌, List, length, slice_index, replicate, sym, ap, ◌∙◌, arith, inl, inr}
+use Rattle.std.proofs.Common.{◌≡◌, ℕ, ◌<◌, ◌≤◌, List, [], length, get_or, slice_index, replicate, sym, ap, ◌∙◌, arith, inl, inr}
 use Rattle.std.proofs.lemmas.Bool.{cases_lt}
 use Rattle.std.proofs.lemmas.List.{get_or_past, get_or-replicate, length-replicate}
 use lib.Bits.{bit_xor}
@@ -16,6 +16,13 @@ pub zeros_everywhere : (m i : ℕ) → slice_index (replicate m 0) i ≡ 0
 zeros_everywhere m i = elim (cases_lt i m) [
   | inl lt ↦ get_or-replicate m i 0 0 lt
   | inr past ↦ get_or_past (replicate m 0) i 0 (omega (arith, length-replicate {A = ℕ} m 0))
+]
+
+-- so is a table of such rows
+pub zeros_in_table : (n m i k : ℕ) → slice_index (get_or (replicate n (replicate m 0)) i []) k ≡ 0
+zeros_in_table n m i k = elim (cases_lt i n) [
+  | inl lt ↦ ap (λ (row : List ℕ). slice_index row k) (get_or-replicate n i (replicate m 0) [] lt) ∙ zeros_everywhere m k
+  | inr past ↦ ap (λ (row : List ℕ). slice_index row k) (get_or_past (replicate n (replicate m 0)) i [] (omega (arith, length-replicate {A = List ℕ} n (replicate m 0))))
 ]
 
 pub sum_everywhere : (m : ℕ) (s row other : List ℕ) (t : ℕ) → length s ≡ m → length row ≡ m → length other ≡ m → ((i : ℕ) → i < m → slice_index s i ≡ bit_xor (slice_index row i) (mul t (slice_index other i))) → (i : ℕ) → slice_index s i ≡ bit_xor (slice_index row i) (mul t (slice_index other i))

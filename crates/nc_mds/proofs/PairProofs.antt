@@ -1,14 +1,12 @@
 -- The square of the rows of all clouds but two, against the rows of these clouds.
-use Rattle.std.proofs.Common.{◌≡◌, ◌≢◌, ℕ, ◌+◌, ◌-◌, ◌*◌, ◌/◌, ◌%◌, ◌<◌, List, [], replicate, slice_index, sym, ap, ◌∙◌, subst, arith, inl, inr}
+use Rattle.std.proofs.Common.{◌≡◌, ◌≢◌, ℕ, ◌+◌, ◌-◌, ◌*◌, ◌/◌, ◌%◌, ◌<◌, List, sym, ap, ◌∙◌, subst, arith, inl, inr}
 use Rattle.std.proofs.lemmas.Bool.{cases_lt}
 use Rattle.std.proofs.lemmas.Bool.Decides.{nat_tests}
-use Rattle.std.proofs.lemmas.List.{get_or_past, get_or-replicate}
 use Rattle.nc_gf256.specs.Rows.{dot, Independent}
 use Rattle.nc_gf256.specs.Width.{native_count}
 use Rattle.nc_code.specs.Parts.{CodeParts}
 use Rattle.nc_code.specs.Codes.{code_row, IsPairMds}
-use Rattle.nc_code.proofs.RowSums.{zeros}
-use Rattle.nc_matrix.specs.Cells.{row_of, entry}
+use Rattle.nc_matrix.specs.Cells.{row_of}
 use Rattle.nc_matrix.specs.Inverted.{IsRowAmong, IsKernel}
 use Rattle.nc_matrix.specs.declared.square.Square.{Square}
 use Rattle.nc_mds.specs.Verdicts.{ShowsDependent, other_cloud}
@@ -88,10 +86,3 @@ pair_shown code a b square v less within are kernel =
           let found = position_is code.width a b is.cloud less within (record { in_width = is.in_width; not_first = is.not_first; not_second = is.not_second }) in
           sent_row code a b square v are same found.0 found.1 is.place is.in_pair row (is.is_row ∙ ap (λ (c : ℕ). code_row code c is.place) (sym found.2));
     }
-
--- a table of zeros
-pub no_cells : (j k : ℕ) → entry (replicate 16 (replicate 16 0)) j k ≡ 0
-no_cells j k = elim (cases_lt j 16) [
-  | inl below ↦ ap (λ (row : List ℕ). slice_index row k) (get_or-replicate 16 j (replicate 16 0) [] below) ∙ zeros k
-  | inr past ↦ ap (λ (row : List ℕ). slice_index row k) (get_or_past (replicate 16 (replicate 16 0)) j [] past)
-]

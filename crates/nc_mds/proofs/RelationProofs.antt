@@ -168,6 +168,17 @@ minor_sent code a b q square v relations less within minor bytes sent j lj =
     ∙ sym (total_pairs code.width a b term less within (λ k lk na nb. ap (mul (entry q j k)) (other_zero code a b v sent k lk na nb) ∙ mul_zero (entry q j k)))
     ∙ relations.sum v bytes j lj
 
+-- what is 0 at both rows of a cloud
+cloud_zero : (f : ℕ → ℕ) (c k : ℕ) → k / 2 ≡ c → f (2 * c) ≡ 0 → f (2 * c + 1) ≡ 0 → f k ≡ 0
+cloud_zero f c k here first second = elim (cases_eq (k % 2) 0) [
+  | inl even ↦
+      let at : k ≡ 2 * c = omega (arith, here, even) in
+      ap f at ∙ first
+  | inr odd ↦
+      let at : k ≡ 2 * c + 1 = omega (arith, here, odd) in
+      ap f at ∙ second
+]
+
 image_zero : (code : CodeParts) (a b : ℕ) (q : List (List ℕ)) (square : Square) (v : List ℕ) → IsCode code → AreRelations code q → a < b → b < code.width → IsMinor a b q square
     → Independent 4 (IsRowAmong 4 square.cells) → AreBytes v → AreSent code a b v → (k : ℕ) → k < 2 * code.width → image code v k ≡ 0
 image_zero code a b q square v kept relations less within minor free bytes sent k lk =
@@ -175,23 +186,9 @@ image_zero code a b q square v kept relations less within minor free bytes sent 
     free.only_zeros (four (image code v) a b) (four_bytes (image code v) a b (λ i. image_lt code v i kept))
     (λ row is. ap (λ (r : List ℕ). dot 4 r (four (image code v) a b)) is.2 ∙ minor_sent code a b q square v relations less within minor bytes sent is.0 is.1) in
     elim (cases_eq (k / 2) a) [
-      | inl first ↦ elim (cases_eq (k % 2) 0) [
-        | inl even ↦
-            let at : k ≡ 2 * a = omega (arith, first, even) in
-            ap (image code v) at ∙ y_zero 0 (omega arith)
-        | inr odd ↦
-            let at : k ≡ 2 * a + 1 = omega (arith, first, odd) in
-            ap (image code v) at ∙ y_zero 1 (omega arith)
-      ]
+      | inl first ↦ cloud_zero (image code v) a k first (y_zero 0 (omega arith)) (y_zero 1 (omega arith))
       | inr na ↦ elim (cases_eq (k / 2) b) [
-        | inl second ↦ elim (cases_eq (k % 2) 0) [
-          | inl even ↦
-              let at : k ≡ 2 * b = omega (arith, second, even) in
-              ap (image code v) at ∙ y_zero 2 (omega arith)
-          | inr odd ↦
-              let at : k ≡ 2 * b + 1 = omega (arith, second, odd) in
-              ap (image code v) at ∙ y_zero 3 (omega arith)
-        ]
+        | inl second ↦ cloud_zero (image code v) b k second (y_zero 2 (omega arith)) (y_zero 3 (omega arith))
         | inr nb ↦ other_zero code a b v sent k lk na nb
       ]
     ]

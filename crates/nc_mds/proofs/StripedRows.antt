@@ -7,7 +7,8 @@ use Rattle.std.proofs.lemmas.List.FromFn.{get_or-map-range_with_len}
 use Rattle.nc_gf256.specs.Field.{mul, total}
 use Rattle.nc_gf256.specs.Rows.{dot, unit}
 use Rattle.nc_gf256.specs.Width.{native_count}
-use Rattle.nc_gf256.proofs.FieldLaws.{mul_zero, zero_mul_any, one_mul}
+use Rattle.nc_gf256.proofs.FieldLaws.{mul_zero, zero_mul_any}
+use Rattle.nc_gf256.proofs.Units.{unit_times}
 use Rattle.nc_gf256.proofs.Sums.{total_same, total_one, total_two, total_three}
 use Rattle.nc_code.specs.Codes.{code_row}
 use Rattle.nc_code.specs.Striped.{stripe, striped_entry, striped_row, striped_code}
@@ -92,18 +93,6 @@ three_left n s d e f w x pair low low2 low3 de df ef others =
     ∙ ap (λ a. bit_xor (bit_xor (mul (w d) (x (2 * d + s))) a) (mul (stripe s w (2 * f + s)) (x (2 * f + s)))) (on_place s e w x pair)
     ∙ ap (bit_xor (bit_xor (mul (w d) (x (2 * d + s))) (mul (w e) (x (2 * e + s))))) (on_place s f w x pair)
 
-unit_on : (j k : ℕ) → k ≡ j → unit j k ≡ 1
-unit_on j k e = grind (arith, nat_tests)
-
-unit_off : (j k : ℕ) → k ≢ j → unit j k ≡ 0
-unit_off j k e = grind (arith, nat_tests)
-
-unit_total : (m j : ℕ) (x : ℕ → ℕ) → j < m → x j < 256 → total m (λ i. mul (unit j i) (x i)) ≡ x j
-unit_total m j x low byte =
-    total_one m (λ i. mul (unit j i) (x i)) j low (λ k below ne. ap (λ a. mul a (x k)) (unit_off j k ne) ∙ zero_mul_any (x k))
-    ∙ ap (λ a. mul a (x j)) (unit_on j j refl)
-    ∙ one_mul (x j) byte
-
 -- the dot products of the rows of a vector, by the kind of the cloud
 dot_is : (n c s : ℕ) (v : List ℕ) (f : ℕ → ℕ) → n ≤ 10 → c < n → s < 2 → ((i : ℕ) → i < native_count n → striped_entry n c s i ≡ f i)
     → dot (native_count n) (code_row (striped_code n) c s) v ≡ total (native_count n) (λ i. mul (f i) (slice_index v i))
@@ -115,7 +104,7 @@ pub dot_native : (n c s : ℕ) (v : List ℕ) → n ≤ 10 → c < n - 2 → s <
     → dot (native_count n) (code_row (striped_code n) c s) v ≡ slice_index v (2 * c + s)
 dot_native n c s v narrow low pair byte =
     dot_is n c s v (unit (2 * c + s)) narrow (omega arith) pair (λ i below. entry_native n c s i below low)
-    ∙ unit_total (native_count n) (2 * c + s) (slice_index v) (omega arith) byte
+    ∙ unit_times (native_count n) (2 * c + s) (unit (2 * c + s)) (slice_index v) (omega arith) (λ k _. refl) byte
 
 pub dot_sums : (n s : ℕ) (v : List ℕ) → 4 ≤ n → n ≤ 10 → s < 2 → dot (native_count n) (code_row (striped_code n) (n - 2) s) v ≡ along n s (λ d. 1) (slice_index v)
 dot_sums n s v wide narrow pair = dot_is n (n - 2) s v (stripe s (λ d. 1)) narrow (omega arith) pair (λ i below. entry_sums n s i wide below)

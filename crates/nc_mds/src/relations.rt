@@ -9,8 +9,7 @@ ghost use Rattle.nc_mds.specs.Relations.{AreRelations, AreSolved, IsMinor, four}
 
 use crate::pairs::without;
 use nc_code::Code;
-use nc_gf256::{add, mul};
-use nc_matrix::{Outcome, Square, invert};
+use nc_matrix::{Outcome, Square, invert, row_times};
 
 /// Four relations between the rows of a code: with the factors of each, the rows of all clouds add up to 0. Row `r` of cloud `c`
 /// has factor `2c+r`.
@@ -51,23 +50,13 @@ fn relation(row: &[u8; 16], inverse: &Square, j: usize) -> [u8; 20]
     ensures right { (i : ℕ) → i < 4 → slice_index result (inverse.now.size + i) ≡ unit j i }
 {
     let size = inverse.size as usize;
+    let products = row_times(row, inverse);
     let mut factors = [0; 20];
     for i in 0..size {
-        factors[i] = factor(row, inverse, i);
+        factors[i] = products[i];
     }
     factors[size + j] = 1;
     factors
-}
-
-fn factor(row: &[u8; 16], inverse: &Square, i: usize) -> u8
-    requires { i < 16 }
-    ensures { result ≡ product_entry inverse.now.size row.now inverse.now.cells i }
-{
-    let mut sum = 0;
-    for k in 0..inverse.size as usize {
-        sum = add(sum, mul(row[k], inverse.cells[k][i]));
-    }
-    sum
 }
 
 /// What the relations say of the rows of clouds `a` and `b` alone.

@@ -2,13 +2,13 @@ use Rattle.std.proofs.Common.{◌≡◌, ◌∙◌, ap, arith, rules, sym, refl}
 use Rattle.nc_gf256.proofs.Sums.{total_nil}
 use Rattle.nc_code.specs.Codes.{term}
 use Rattle.nc_code.specs.Parts.{CodeParts}
-use Rattle.nc_code.proofs.RowSums.{zeros}
+use Rattle.nc_gf256.proofs.RowSums.{zeros_everywhere}
 use Rattle.nc_code.proofs.RepairLemmas.{sum_more, whole_row}
 use Rattle.nc_code.proofs.repair.new_row.Goals as goal
 
 pub loop-t-init : goal.loop-t-init
 loop-t-init c =
-    (refl, λ k below. zeros k ∙ sym (total_nil (term c.args.code.now c.args.lost c.args.plan.now c.args.r k)))
+    (refl, λ k below. zeros_everywhere 16 k ∙ sym (total_nil (term c.args.code.now c.args.lost c.args.plan.now c.args.r k)))
 
 pub loop-t-preserved : goal.loop-t-preserved
 loop-t-preserved c =

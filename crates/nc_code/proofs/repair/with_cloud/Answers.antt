@@ -13,4 +13,4 @@ returns c = λ k.
     let survivor = term_survivor c.args.code.now c.args.lost c.args.plan.now c.args.r k c.args.t c.if-t-lost.false in
     let chosen = c.row-chosen.ensures in
     let view = c.plan.view_is in
-    rw survivor (rw (← view) (rw (← chosen) (c.plus_times.ensures k)))
+    rw survivor (rw (← view) (rw (← chosen) (c.plus_times.ensures.sums k)))
