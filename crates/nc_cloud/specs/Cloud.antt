@@ -31,8 +31,16 @@ chunks_in (Meta name slot) result = 0
 abbrev pub got_after : Key → Result Got CloudError → ℕ → ℕ
 got_after key result count = got_count count (chunks_in key result)
 
+-- the text of a key is before that of another
+abbrev pub IsBefore : Key → Key → Type 0
+IsBefore a b = slice_cmp nat_cmp (key_text a) (key_text b) ≡ Less
+
+-- keys are sorted by their texts, each once
+abbrev pub AreSorted : List Key → Type 0
+AreSorted keys = AllPairs IsBefore keys
+
 -- the keys that a cloud holds, sorted by their texts, each once
 pub record Lists (held : Store) (keys : List Key) : Type 0 where
   pub all : (key : Key) → IsSome (held key) → Contains keys key
   pub only : (key : Key) → Contains keys key → IsSome (held key)
-  pub sorted : AllPairs (λ a b. slice_cmp nat_cmp (key_text a) (key_text b) ≡ Less) keys
+  pub sorted : AreSorted keys

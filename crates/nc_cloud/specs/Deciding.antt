@@ -1,18 +1,21 @@
 -- How a round decides a command.
-use Rattle.std.specs.Prelude.{ℕ, ◌≡◌, ◌<◌, List, Bool, true, false, length, slice_index_or}
+use Rattle.std.specs.Prelude.{ℕ, ◌≡◌, ◌<◌, List, Bool, true, false, length, slice_index_or, All, AllPairs, Result, IfErr, OnOk}
 use Rattle.nc_cloud.specs.declared.fleet.Ask.{Ask}
 use Rattle.nc_cloud.specs.declared.fleet.Job.{Job}
 use Rattle.nc_cloud.specs.declared.fleet.Done.TheVariants as done
 use Rattle.nc_cloud.specs.declared.fleet.Answer.{Answer}
 use Rattle.nc_cloud.specs.declared.fleet.Answer.TheVariants as answer
-use Rattle.nc_cloud.specs.Contents.{Rose}
+use Rattle.nc_cloud.specs.Contents.{Rose, Grows, Write}
+use Rattle.nc_cloud.specs.Fleet.{writes}
+use Rattle.nc_cloud.specs.Images.{Image, Written}
+use Rattle.nc_cloud.specs.declared.fleet.Fleet.{Ghosts as FleetGhosts}
 use Rattle.nc_cloud.specs.declared.deciding.RoundFault.{RoundFault}
 use Rattle.nc_cloud.specs.declared.deciding.RoundFault.TheVariants.{Cloud, Memory}
 
--- entry i is that of cloud i, one for each of n clouds
-pub record AreByCloud {A : Type 0} (cloud : A → ℕ) (n : ℕ) (entries : List A) : Type 0 where
-  pub count : length entries ≡ n
-  pub each : (i : ℕ) (d : A) → i < n → cloud (slice_index_or entries i d) ≡ i
+-- the entries are of clouds below n, in ascending order: at most one for each
+pub record AreAscending {A : Type 0} (cloud : A → ℕ) (n : ℕ) (entries : List A) : Type 0 where
+  pub below : All (λ a. cloud a < n) entries
+  pub rising : AllPairs (λ a b. cloud a < cloud b) entries
 
 -- the entry is to blame for this
 abbrev pub BlamesJob : Job → RoundFault → Type 0
@@ -39,6 +42,17 @@ pub record IsLeast {A : Type 0} (IsFine : A → Type 0) (Blames : A → RoundFau
   pub before : (k : ℕ) (d : A) → k < at → IsFine (slice_index_or entries k d)
   pub here : (d : A) → Blames (slice_index_or entries at d) fault
 
+-- the answer of a round: Ok where each entry is fine, else what the first that isn't is to blame for
+pub record Decides {A : Type 0} (IsFine : A → Type 0) (Blames : A → RoundFault → Type 0) (entries : List A) (result : Result (Unit {0}) RoundFault) : Type 0 where
+  pub ok : OnOk result (All IsFine entries)
+  pub err : IfErr result (IsLeast IsFine Blames entries)
+
+abbrev pub DecidesAsks : List Ask → Result (Unit {0}) RoundFault → Type 0
+DecidesAsks asks result = Decides (λ a. IsSeen a.answer ≡ true) BlamesAsk asks result
+
+abbrev pub DecidesJobs : List Job → Result (Unit {0}) RoundFault → Type 0
+DecidesJobs jobs result = Decides (λ j. j.done ≡ done.Ok) BlamesJob jobs result
+
 -- the count of this cloud rose, and where counts are exact, that of no lower one
 abbrev pub IsFirstToRise : Type 0 → (ℕ → ℕ) → (ℕ → ℕ) → ℕ → Type 0
 IsFirstToRise exact before now c = Rose (before c) (now c) × (exact → (d : ℕ) → d < c → now d ≡ before d)
@@ -47,3 +61,25 @@ IsFirstToRise exact before now c = Rose (before c) (now c) × (exact → (d : �
 abbrev pub HasCause : Type 0 → (ℕ → ℕ) → (ℕ → ℕ) → RoundFault → Type 0
 HasCause exact before now (Cloud c) = IsFirstToRise exact before now c
 HasCause exact before now Memory = Unit {0}
+
+-- what the answer of one round or several says of the counts of failures
+pub record TellsCounts {A : Type 0} (F : FleetGhosts A) (old new : A) {T : Type 0} (result : Result T RoundFault) : Type 0 where
+  pub cause : IfErr result (HasCause F.counts_exactly (F.faults old) (F.faults new))
+  pub clean : F.counts_exactly → OnOk result ((c : ℕ) → F.faults new c ≡ F.faults old c)
+
+-- the clouds were only looked at: they hold what they held, and no count of failures fell
+pub record OnlyLooked {A : Type 0} (F : FleetGhosts A) (old new : A) : Type 0 where
+  pub clouds : F.clouds new ≡ F.clouds old
+  pub held : F.held new ≡ F.held old
+  pub grows : Grows (F.faults old) (F.faults new)
+
+-- a round of these writes: how each ended, what is left, and what the answer says
+pub record Wrote {A : Type 0} (F : FleetGhosts A) (ps : List Write) (ended : List Job) (old new : A) (result : Result (Unit {0}) RoundFault) : Type 0 where
+  pub entries : writes ended ≡ ps
+  pub decides : DecidesJobs ended result
+  pub image : F.tells → Image ps (F.held old) (F.held new)
+  pub done : F.tells → OnOk result (Written ps (F.held old) (F.held new))
+  pub counts : TellsCounts F old new result
+  pub clouds : F.clouds new ≡ F.clouds old
+  pub grows : Grows (F.faults old) (F.faults new)
+  pub gets : F.chunk_gets new ≡ F.chunk_gets old

@@ -5,13 +5,16 @@ ghost use Rattle.nc_cloud.specs.Cloud.{GetShows, got_after, Lists};
 ghost use Rattle.nc_cloud.specs.declared.cloud.CloudError.TheVariants.{Failed, Memory as NoMemory};
 
 use nc_name::{Blob, Key, Memory, Sequence};
+use thiserror::Error;
 
 /// Why a call on a cloud wasn't done.
-#[derive(Clone, Copy, Debug, PartialEq, Eq)]
+#[derive(Clone, Copy, Debug, PartialEq, Eq, Error)]
 pub enum CloudError {
     /// The cloud failed. Its count rose.
+    #[error("the cloud failed")]
     Failed,
     /// No memory was found.
+    #[error("no memory")]
     Memory,
 }
 

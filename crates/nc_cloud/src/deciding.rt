@@ -1,18 +1,20 @@
-ghost use Rattle.std.specs.Prelude.{◌≡◌, ◌≢◌, ℕ, All, map, IfErr, IfSome, IfNone, OnOk, true};
+ghost use Rattle.std.specs.Prelude.{◌≡◌, ◌≢◌, ℕ, List, All, map, IfSome, IfNone, true};
 ghost use Rattle.nc_frame.specs.Frames.{Whole};
-ghost use Rattle.nc_cloud.specs.Contents.{Leaves, Grows};
-ghost use Rattle.nc_cloud.specs.Images.{Image, Written};
-ghost use Rattle.nc_cloud.specs.Fleet.{asked, writes, touches, Answers};
-ghost use Rattle.nc_cloud.specs.Deciding.{AreByCloud, BlamesJob, BlamesAsk, IsSeen, IsLeast, HasCause};
+ghost use Rattle.nc_cloud.specs.Fleet.{asked, writes, Answers, chunks_got, got_count};
+ghost use Rattle.nc_cloud.specs.declared.fleet.Job.{Job};
+ghost use Rattle.nc_cloud.specs.Deciding.{AreAscending, BlamesJob, BlamesAsk, DecidesAsks, DecidesJobs, IsSeen, OnlyLooked, TellsCounts, Wrote};
 
 use crate::fleet::{Answer, Ask, Done, Fleet, Job};
+use thiserror::Error;
 
 /// What kept a round from being Ok as a whole.
-#[derive(Clone, Copy, Debug, PartialEq, Eq)]
+#[derive(Clone, Copy, Debug, PartialEq, Eq, Error)]
 pub enum RoundFault {
     /// This cloud failed: the least of its round.
+    #[error("cloud {0} failed")]
     Cloud(u8),
     /// No memory was found.
+    #[error("no memory")]
     Memory,
 }
 
@@ -32,8 +34,7 @@ fn job_fault(job: &Job) -> Option<RoundFault>
 /// The least entry that isn't Ok decides.
 fn written(jobs: &[Job]) -> Result<(), RoundFault>
     requires { All (λ j. j.done ≢ Done.Waiting) jobs.now }
-    ensures ok { OnOk result (All (λ j. j.done ≡ Done.Ok) jobs.now) }
-    ensures err { IfErr result (IsLeast (λ j. j.done ≡ Done.Ok) BlamesJob jobs.now) }
+    ensures { DecidesJobs jobs.now result }
 {
     for job in jobs {
         if let Some(fault) = job_fault(job) {
@@ -59,8 +60,7 @@ fn ask_fault(ask: &Ask) -> Option<RoundFault>
 /// The least entry that says nothing decides.
 fn answered(asks: &[Ask]) -> Result<(), RoundFault>
     requires { All (λ a. a.answer ≢ Answer.Waiting) asks.now }
-    ensures ok { OnOk result (All (λ a. IsSeen a.answer ≡ true) asks.now) }
-    ensures err { IfErr result (IsLeast (λ a. IsSeen a.answer ≡ true) BlamesAsk asks.now) }
+    ensures { DecidesAsks asks.now result }
 {
     for ask in asks {
         if let Some(fault) = ask_fault(ask) {
@@ -70,50 +70,38 @@ fn answered(asks: &[Ask]) -> Result<(), RoundFault>
     Ok(())
 }
 
-/// A round of writes, one on each cloud. The least entry that isn't Ok decides.
+/// A round of writes, on some clouds in ascending order. The least entry that isn't Ok decides.
 pub fn write_round<F: Fleet>(fleet: &mut F, jobs: &mut [Job]) -> Result<(), RoundFault>
     requires ready { F.ready }
-    requires clouds { AreByCloud (λ j. j.cloud) (F.clouds fleet.old) jobs.old }
+    requires clouds { AreAscending (λ j. j.cloud) (F.clouds fleet.old) jobs.old }
     requires whole { All (λ j. Whole j.bytes) jobs.old }
-    ensures image { F.tells → Image (writes jobs.old) (F.held fleet.old) (F.held fleet.new) }
-    ensures done { F.tells → OnOk result (Written (writes jobs.old) (F.held fleet.old) (F.held fleet.new)) }
-    ensures cause { IfErr result (HasCause F.counts_exactly (F.faults fleet.old) (F.faults fleet.new)) }
-    ensures clean { F.counts_exactly → OnOk result ((c : ℕ) → F.faults fleet.new c ≡ F.faults fleet.old c) }
-    ensures clouds { F.clouds fleet.new ≡ F.clouds fleet.old }
-    ensures grows { Grows (F.faults fleet.old) (F.faults fleet.new) }
+    ensures wrote { Wrote F.Fleet (writes jobs.old) jobs.new fleet.old fleet.new result }
 {
     fleet.put_round(jobs);
     written(jobs)
 }
 
-/// A round of gets, one on each cloud. The least entry that says nothing decides.
+/// A round of gets, of some clouds in ascending order. The least entry that says nothing decides.
 pub fn ask_round<F: Fleet>(fleet: &mut F, asks: &mut [Ask]) -> Result<(), RoundFault>
     requires ready { F.ready }
-    requires clouds { AreByCloud (λ a. a.cloud) (F.clouds fleet.old) asks.old }
+    requires clouds { AreAscending (λ a. a.cloud) (F.clouds fleet.old) asks.old }
     ensures entries { map asked asks.new ≡ map asked asks.old }
     ensures told { F.tells → All (λ a. Answers a (F.held fleet.old a.cloud a.key)) asks.new }
-    ensures seen { OnOk result (All (λ a. IsSeen a.answer ≡ true) asks.new) }
-    ensures cause { IfErr result (HasCause F.counts_exactly (F.faults fleet.old) (F.faults fleet.new)) }
-    ensures clean { F.counts_exactly → OnOk result ((c : ℕ) → F.faults fleet.new c ≡ F.faults fleet.old c) }
-    ensures clouds { F.clouds fleet.new ≡ F.clouds fleet.old }
-    ensures held { F.held fleet.new ≡ F.held fleet.old }
-    ensures grows { Grows (F.faults fleet.old) (F.faults fleet.new) }
+    ensures decides { DecidesAsks asks.new result }
+    ensures counts { TellsCounts F.Fleet fleet.old fleet.new result }
+    ensures looked { OnlyLooked F.Fleet fleet.old fleet.new }
+    ensures gets { (c : ℕ) → F.chunk_gets fleet.new c ≡ got_count (F.chunk_gets fleet.old c) (chunks_got c asks.new) }
 {
     fleet.get_round(asks);
     answered(asks)
 }
 
-/// A round of writes, one on each cloud, which are let go afterwards.
+/// A round of writes, on some clouds in ascending order, which are let go afterwards. The least entry that isn't Ok decides.
 pub fn write_row<F: Fleet>(fleet: &mut F, mut jobs: Vec<Job>) -> Result<(), RoundFault>
     requires ready { F.ready }
-    requires clouds { AreByCloud (λ j. j.cloud) (F.clouds fleet.old) jobs.items }
+    requires clouds { AreAscending (λ j. j.cloud) (F.clouds fleet.old) jobs.items }
     requires whole { All (λ j. Whole j.bytes) jobs.items }
-    ensures image { F.tells → Image (writes jobs.items) (F.held fleet.old) (F.held fleet.new) }
-    ensures done { F.tells → OnOk result (Written (writes jobs.items) (F.held fleet.old) (F.held fleet.new)) }
-    ensures cause { IfErr result (HasCause F.counts_exactly (F.faults fleet.old) (F.faults fleet.new)) }
-    ensures clean { F.counts_exactly → OnOk result ((c : ℕ) → F.faults fleet.new c ≡ F.faults fleet.old c) }
-    ensures clouds { F.clouds fleet.new ≡ F.clouds fleet.old }
-    ensures grows { Grows (F.faults fleet.old) (F.faults fleet.new) }
+    ensures wrote { (ended : List Job) × Wrote F.Fleet (writes jobs.items) ended fleet.old fleet.new result }
 {
     write_round(fleet, &mut jobs)
 }

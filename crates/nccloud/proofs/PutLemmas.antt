@@ -8,9 +8,9 @@ use Rattle.nc_cloud.specs.Fleet.{write, writes}
 use Rattle.nc_native.specs.Native.{combination}
 use Rattle.nc_code.specs.Codes.{code_row}
 use Rattle.nc_nextloss.specs.GoodCodes.{GoodParts}
-use Rattle.nc_cloud.specs.Deciding.{AreByCloud}
+use Rattle.nc_cloud.specs.Deciding.{AreAscending}
 use Rattle.nccloud.specs.Store.{IsPrepared, ChangesOnlyName, file_place, meta_place}
-use Rattle.nc_cloud.proofs.Decisions.{by_cloud_row}
+use Rattle.nc_cloud.proofs.Decisions.{ascend_row}
 use Rattle.nccloud.proofs.StoreLaws.{only_name}
 
 -- the same writes at an equal width
@@ -19,14 +19,14 @@ widened n m good name v first second metas same made = subst (λ k. IsPrepared k
 
 module _ (n : ℕ) (good : GoodParts) (name v : List ℕ) (first second metas : List Job) (made : IsPrepared n good name v first second metas) where
   -- each round has one write for each cloud
-  pub first_by_cloud : AreByCloud (λ j. j.cloud) n first
-  first_by_cloud = by_cloud_row write (λ p. p.cloud) (file_place n good.code name v 0) (λ k. refl) n first made.first_places
+  pub first_ascends : AreAscending (λ j. j.cloud) n first
+  first_ascends = ascend_row write (λ p. p.cloud) (file_place n good.code name v 0) (λ k. refl) n first made.first_places
 
-  pub second_by_cloud : AreByCloud (λ j. j.cloud) n second
-  second_by_cloud = by_cloud_row write (λ p. p.cloud) (file_place n good.code name v 1) (λ k. refl) n second made.second_places
+  pub second_ascends : AreAscending (λ j. j.cloud) n second
+  second_ascends = ascend_row write (λ p. p.cloud) (file_place n good.code name v 1) (λ k. refl) n second made.second_places
 
-  pub metas_by_cloud : AreByCloud (λ j. j.cloud) n metas
-  metas_by_cloud = by_cloud_row write (λ p. p.cloud) (meta_place n name made.payload) (λ k. refl) n metas made.meta_places
+  pub metas_ascend : AreAscending (λ j. j.cloud) n metas
+  metas_ascend = ascend_row write (λ p. p.cloud) (meta_place n name made.payload) (λ k. refl) n metas made.meta_places
 
   -- and touches only objects of the name
   pub first_only : (F G : Contents) → Image (writes first) F G → ChangesOnlyName name F G
