@@ -55,9 +55,21 @@ mod tests {
 
     #[test]
     fn all_but_zero_have_an_inverse(rt: HostRuntime) {
-        assert_eq!(rt; inv(0x00), None);
-        assert_eq!(rt; inv(0x01), Some(0x01));
-        assert_eq!(rt; inv(0x02), Some(0x8E));
-        assert_eq!(rt; inv(0x03), Some(0xF4));
+        for (a, inverse) in [
+            (0x00, None),
+            (0x01, Some(0x01)),
+            (0x02, Some(0x8E)),
+            (0x03, Some(0xF4)),
+        ] {
+            assert_eq!(rt; inv(a), inverse, "of {a}");
+        }
+    }
+
+    #[test]
+    fn a_multiple_is_added_to_a_row(rt: HostRuntime) {
+        assert_eq!(rt;
+            plus_times(&[0x01, 0x53, 0x07], &[0x80, 0x00, 0x8E], 0x02),
+            [0x1C, 0x53, 0x06]
+        );
     }
 }

@@ -1,6 +1,6 @@
 -- What the check of a code answers.
-use Rattle.std.specs.Prelude.{ℕ, ◌≡◌, ◌≢◌, ◌+◌, ◌<◌, ◌≤◌, List, nat_lt, slice_index, if◌then◌else◌}
-use Rattle.nc_bytes.specs.Bytes.{AreBytes}
+use Rattle.std.specs.Prelude.{ℕ, ◌≡◌, ◌≢◌, ◌+◌, ◌<◌, List, nat_lt, slice_index, if◌then◌else◌}
+use Rattle.nc_bytes.specs.Bytes.{AreBytes, IsZeroPast}
 use Rattle.nc_gf256.specs.Rows.{dot}
 use Rattle.nc_gf256.specs.Width.{native_count}
 use Rattle.nc_code.specs.Parts.{CodeParts}
@@ -13,7 +13,7 @@ pub record ShowsDependent (code : CodeParts) (a b : ℕ) (v : List ℕ) : Type 0
   pub place : ℕ
   pub within : place < native_count code.width
   pub not_zero : slice_index v place ≢ 0
-  pub zero_past : (k : ℕ) → native_count code.width ≤ k → slice_index v k ≡ 0
+  pub zero_past : IsZeroPast (native_count code.width) v
   pub bytes : AreBytes v
   pub sent : (row : List ℕ) → IsRowWithout code a b row → dot (native_count code.width) row v ≡ 0
 
