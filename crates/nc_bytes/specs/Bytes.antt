@@ -1,5 +1,5 @@
 -- Lists of bytes, their parts, and numbers as bytes.
-use Rattle.std.specs.Prelude.{ℕ, ◌≡◌, ◌<◌, ◌≤◌, List, [], slice_index, slice_index_or, take, drop}
+use Rattle.std.specs.Prelude.{ℕ, ◌≡◌, ◌-◌, ◌<◌, ◌≤◌, List, [], ◌++◌, length, replicate, slice_index, slice_index_or, take, drop}
 use Rattle.std.specs.Int.{w16, w64, to_be_bytes}
 
 -- a byte is a number below 256
@@ -17,6 +17,10 @@ AreZeroPast n rows = (i k : ℕ) → n ≤ i → slice_index (slice_index_or row
 -- n bytes from place at on
 abbrev pub part : ℕ → ℕ → List ℕ → List ℕ
 part at n bytes = take n (drop at bytes)
+
+-- the bytes, and zeros up to this size
+abbrev pub padded : ℕ → List ℕ → List ℕ
+padded size bytes = bytes ++ replicate (size - length bytes) 0
 
 -- a number in 2 and in 8 bytes, the high byte first (network order)
 unfoldable pub bytes_2 : ℕ → List ℕ

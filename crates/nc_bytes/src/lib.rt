@@ -2,7 +2,7 @@
 #![tactic(auto)]
 
 ghost use Rattle.std.specs.Prelude.{◌≡◌, ◌↔◌, ◌+◌, ◌-◌, ◌≤◌, length, IsTrue, take};
-ghost use Rattle.nc_bytes.specs.Bytes.{AreBytes, part, bytes_2, bytes_8};
+ghost use Rattle.nc_bytes.specs.Bytes.{AreBytes, padded, part, bytes_2, bytes_8};
 
 use byteorder::{BigEndian, ByteOrder};
 
@@ -21,6 +21,17 @@ pub fn is_same(a: &[u8], b: &[u8]) -> bool
     ensures { IsTrue result ↔ (a.now ≡ b.now) }
 {
     a == b
+}
+
+/// The bytes, and zeros after them.
+pub fn padded<const N: usize>(bytes: &[u8]) -> [u8; N]
+    requires { length bytes.now ≤ N }
+    ensures { result ≡ padded N bytes.now }
+{
+    let mut whole = [0; N];
+    let (front, _) = whole.split_at_mut(bytes.len());
+    front.copy_from_slice(bytes);
+    whole
 }
 
 /// Tells that what a slice has are bytes. It computes nothing, as each function whose name begins with `told_`.

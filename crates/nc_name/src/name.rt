@@ -1,7 +1,7 @@
-ghost use Rattle.std.specs.Prelude.{◌≡◌, ◌↔◌, ◌≤◌, ◌<◌, ◌-◌, ◌++◌, ℕ, false, length, replicate, slice_index, IsTrue, IfOk, IfErr, IfSome, IfNone};
+ghost use Rattle.std.specs.Prelude.{◌≡◌, ◌↔◌, ◌<◌, ℕ, false, length, slice_index, IsTrue, IfOk, IfErr, IfSome, IfNone};
 ghost use Rattle.nc_name.specs.Names.{IsName, IsFirstControl, RefusesName, is_control};
 
-use nc_bytes::is_same;
+use nc_bytes::{is_same, padded};
 use std::marker::Model;
 use thiserror::Error;
 
@@ -87,15 +87,4 @@ fn first_control(bytes: &[u8]) -> Option<usize>
     ensures none { IfNone result ((i : ℕ) → i < length bytes.now → is_control (slice_index bytes.now i) ≡ false) }
 {
     bytes.iter().position(|b| *b < 0x20 || *b == 0x7F)
-}
-
-/// The bytes, and zeros after them.
-fn padded(bytes: &[u8]) -> [u8; 100]
-    requires { length bytes.now ≤ 100 }
-    ensures { result ≡ bytes.now ++ replicate (100 - length bytes.now) 0 }
-{
-    let mut whole = [0; 100];
-    let (front, _) = whole.split_at_mut(bytes.len());
-    front.copy_from_slice(bytes);
-    whole
 }

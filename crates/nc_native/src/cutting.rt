@@ -1,4 +1,5 @@
-ghost use Rattle.std.specs.Prelude.{◌≡◌, ℕ, ◌-◌, ◌≤◌, List, ◌++◌, length, replicate, IfOk};
+ghost use Rattle.std.specs.Prelude.{◌≡◌, ℕ, ◌≤◌, List, length, IfOk};
+ghost use Rattle.nc_bytes.specs.Bytes.{padded};
 ghost use Rattle.nc_gf256.specs.Width.{native_count};
 ghost use Rattle.nc_native.specs.Native.{chunk_size, natives_of, native_len, AllLong};
 
@@ -28,16 +29,16 @@ pub fn cut(alloc: Global, bytes: &[u8], width: u8) -> Result<Natives, Memory>
     let mut rest = bytes;
     for _i in 0..2 * (usize::from(width) - 2) {
         let (front, back) = rest.split_at(size.min(rest.len()));
-        natives.push(padded(alloc, front, size)?)?;
+        natives.push(filled_up(alloc, front, size)?)?;
         rest = back;
     }
     Ok(natives)
 }
 
 /// The bytes, and zeros up to `size` bytes.
-fn padded(alloc: Global, front: &[u8], size: usize) -> Result<Blob, Memory>
+fn filled_up(alloc: Global, front: &[u8], size: usize) -> Result<Blob, Memory>
     requires { length front.now ≤ size }
-    ensures { IfOk result (λ blob. blob ≡ front.now ++ replicate (size - length front.now) 0) }
+    ensures { IfOk result (λ blob. blob ≡ padded size front.now) }
 {
     let Ok(mut bytes) = Vec::with_capacity(alloc, size) else {
         return Err(Memory);

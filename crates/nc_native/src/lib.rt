@@ -6,7 +6,6 @@ mod joining;
 
 pub use cutting::{chunk_size, cut};
 pub use joining::{join, joins};
-
 use nc_name::{Blob, Sequence};
 
 /// Native chunks in order.

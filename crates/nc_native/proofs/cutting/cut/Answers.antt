@@ -8,8 +8,8 @@ use Rattle.nc_native.proofs.cutting.cut.Goals as goal
 pub loop-i-preserved : goal.loop-i-preserved
 loop-i-preserved c = (
   c.split_at.ensures.back ∙ rest_more c.args.bytes.now c.chunk_size-size.result c.loop-i._i c.min.result c.loop-i.rest.now c.loop-i.invariant.0 (search rules),
-  c.in_ok-push.ensures.ok ∙ native_more c.args.bytes.now c.args.width c.loop-i._i c.min.result c.chunk_size-size.result c.loop-i.rest.now c.split_at.result.0.now c.in_ok-padded.field-0 c.loop-i.natives
-      c.chunk_size-size.ensures c.loop-i.invariant.0 (search rules) c.split_at.ensures.front c.in_ok-padded.ensures c.loop-i.invariant.1,
+  c.in_ok-push.ensures.ok ∙ native_more c.args.bytes.now c.args.width c.loop-i._i c.min.result c.chunk_size-size.result c.loop-i.rest.now c.split_at.result.0.now c.in_ok-filled_up.field-0 c.loop-i.natives
+      c.chunk_size-size.ensures c.loop-i.invariant.0 (search rules) c.split_at.ensures.front c.in_ok-filled_up.ensures c.loop-i.invariant.1,
 )
 
 pub returns-clause-count : goal.returns-clause-count
