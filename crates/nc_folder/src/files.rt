@@ -123,7 +123,8 @@ pub fn get(
     }
 }
 
-/// Writes a file, syncs it and closes it.
+/// Writes a file, syncs it and closes it. Then the folder is synced, which holds its name: a file that is there already may
+/// be of a put that didn't come so far.
 pub fn put(
     rt: &HostRuntime,
     alloc: Global,
@@ -136,6 +137,7 @@ pub fn put(
     let mut file = fs::create(rt, path.as_str())?;
     file.write_all(bytes)?;
     file.sync_all()?;
+    fs::open(rt, folder)?.sync_all()?;
     Ok(())
 }
 

@@ -3,7 +3,7 @@ ghost use Rattle.nc_name.specs.Keys.{Slots};
 use crate::folder::FolderCloud;
 use nc_cloud::{Cloud, CloudError, Fanned, Fleet, Got};
 use nc_frame::seal;
-use nc_name::{Key, Name};
+use nc_name::{Blob, Key, Name};
 use std::alloc::Global;
 use std::fs;
 use std::test::Fail;
@@ -35,7 +35,16 @@ fn failed<T>(answer: &Result<T, CloudError>) -> bool {
     matches!(answer, Err(CloudError::Failed))
 }
 
-/// How many of the four calls fail.
+/// Stores an object under the key.
+fn store(alloc: Global, folder: &mut FolderCloud, key: &Key) -> Result<Blob, Fail>
+    requires { Slots key.now }
+{
+    let bytes = seal(alloc, 0, 4, key, &[4, 4])?;
+    folder.put(key, bytes.bytes())?;
+    Ok(bytes)
+}
+
+/// How many of the calls but `list` fail.
 fn failures(alloc: Global, folder: &mut FolderCloud, key: &Key) -> Result<u8, Fail>
     requires { Slots key.now }
 {
@@ -54,17 +63,28 @@ fn failures(alloc: Global, folder: &mut FolderCloud, key: &Key) -> Result<u8, Fa
 }
 
 #[test]
-fn an_object_is_written_read_and_deleted(rt: HostRuntime) -> Result<(), Fail> {
+fn objects_are_written_read_listed_and_deleted(rt: HostRuntime) -> Result<(), Fail> {
     fs::create_dir_all(&rt, "scratch_objects")?;
-    let key = chunk(Name::read("a")?);
-    let bytes = seal(rt.alloc(), 0, 4, &key, &[4, 4])?;
+    let (name, other) = (Name::read("a")?, Name::read("b")?);
+    let key = chunk(name);
     let mut folder = FolderCloud::open(rt, "scratch_objects")?;
     assert!(rt; matches!(folder.get(&key, 58)?, Got::Absent));
-    folder.put(&key, bytes.bytes())?;
+    store(rt.alloc(), &mut folder, &meta(other))?;
+    store(rt.alloc(), &mut folder, &meta(name))?;
+    store(rt.alloc(), &mut folder, &chunk(other))?;
+    let bytes = store(rt.alloc(), &mut folder, &key)?;
     assert!(rt; gave(&folder.get(&key, 58)?, bytes.bytes()));
     assert!(rt; matches!(folder.get(&key, 57)?, Got::Long));
     fs::write(&rt, "scratch_objects/notes.txt", "no key")?;
-    assert_eq!(rt; folder.list()?.items().len(), 1);
+    let listed = folder.list()?;
+    assert_eq!(rt; listed.items().len(), 4);
+    for (found, want) in listed
+        .items()
+        .iter()
+        .zip([key, chunk(other), meta(name), meta(other)])
+    {
+        assert!(rt; found.is_same(&want));
+    }
     folder.delete(&key)?;
     folder.delete(&key)?;
     assert!(rt; matches!(folder.get(&key, 58)?, Got::Absent));

@@ -1,7 +1,8 @@
 -- A file comes back from the combinations of its natives: the inverse of their rows makes the natives again.
-use Rattle.std.proofs.Common.{◌≡◌, ℕ, zero, suc, ◌+◌, ◌*◌, ◌/◌, ◌%◌, ◌<◌, ◌≤◌, List, [], ◌∷◌, length, get_or, take, map, refl, sym, ◌∙◌, ap, subst, arith}
-use Rattle.std.proofs.lemmas.List.{length-map, length-take-le, get_or-map, get_or-take}
-use Rattle.std.proofs.lemmas.List.FromFn.{fill_by_all, get_or-map-range_with_len}
+use Rattle.std.proofs.Common.{◌≡◌, ℕ, zero, suc, ◌+◌, ◌*◌, ◌/◌, ◌%◌, ◌<◌, ◌≤◌, List, [], ◌∷◌, length, get_or, take, map, refl, sym, ◌∙◌, ap, subst, inl, inr, arith}
+use Rattle.std.proofs.lemmas.List.{length-map, length-take-le, get_or-map, get_or-take, get_or_past, get_or_default, same_lists}
+use Rattle.std.proofs.lemmas.Bool.{cases_lt}
+use Rattle.std.proofs.lemmas.List.FromFn.{get_or-map-range_with_len}
 use Rattle.std.proofs.lemmas.Grind.{same_number_lists}
 use Rattle.std.specs.List.{All, AllPairs, concat}
 use Rattle.nc_bytes.specs.Bytes.{AreBytes}
@@ -10,8 +11,8 @@ use Rattle.nc_gf256.specs.Rows.{Independent}
 use Rattle.nc_gf256.specs.Width.{native_count}
 use Rattle.nc_gf256.proofs.FieldLaws.{mul_lt}
 use Rattle.nc_gf256.proofs.Sums.{total_lt}
-use Rattle.nc_native.specs.Native.{native, natives_of, chunk_size, combination, AllLong}
-use Rattle.nc_native.proofs.Pieces.{native_at, length-piece, native_bytes, natives_back, all_fit}
+use Rattle.nc_native.specs.Native.{natives_of, chunk_size, AllLong}
+use Rattle.nc_native.proofs.Pieces.{natives_count, natives_long, native_bytes, natives_back, all_fit}
 use Rattle.nc_code.specs.Parts.{CodeParts, IsCode}
 use Rattle.nc_code.specs.Codes.{code_row, IsMds, IsPairMds}
 use Rattle.nc_matrix.specs.Cells.{row_of, entry}
@@ -19,8 +20,8 @@ use Rattle.nc_matrix.specs.Products.{IsVector, times}
 use Rattle.nc_matrix.specs.Inverted.{IsInverse, IsRowAmong}
 use Rattle.nc_mix.specs.declared.pieces.Piece.{Piece}
 use Rattle.nc_mix.specs.Mixing.{mixed_byte, mixed}
-use Rattle.nc_mix.specs.Decoding.{IsPieceOf, IsLong, IsBefore, chunks_in, HoldsRows, solved}
-use Rattle.nc_mix.proofs.Mixes.{length-mixed}
+use Rattle.nc_mix.specs.Decoding.{IsPieceOf, IsMixOf, Solves, IsSolution, IsLong, HoldsBytes, IsBefore, chunks_in, HoldsRows, solved}
+use Rattle.nc_mix.proofs.Mixes.{length-mixed, mixed_natives}
 use Rattle.nc_mix.proofs.Solving.{length-solved}
 use Rattle.nc_mix.proofs.Missing.{IsAscending, LeavesOut, leaves_out}
 
@@ -48,11 +49,11 @@ chunks_at (x ∷ xs) (suc p) r d h pair =
     let e : 2 * suc p + r ≡ suc (suc (2 * p + r)) = omega arith in
     ap (λ k. get_or (x.zero ∷ x.one ∷ chunks_in xs) k []) e ∙ chunks_at xs p r d (omega arith) pair
 
-piece_chunk : (code : CodeParts) (v : List ℕ) (x : Piece) (r : ℕ) → IsPieceOf code v x → r < 2 → chunk_of x r ≡ combination (code_row code x.cloud r) v code.width
+piece_chunk : (code : CodeParts) (size : ℕ) (natives : List (List ℕ)) (x : Piece) (r : ℕ) → IsMixOf code size natives x → r < 2 → chunk_of x r ≡ mixed size (code_row code x.cloud r) natives
 unfolding chunk_of
-piece_chunk code v x zero is h = is.zero
-piece_chunk code v x (suc zero) is h = is.one
-piece_chunk code v x (suc (suc r)) is h = absurd (omega arith)
+piece_chunk code size natives x zero is h = is.zero
+piece_chunk code size natives x (suc zero) is h = is.one
+piece_chunk code size natives x (suc (suc r)) is h = absurd (omega arith)
 
 chunk_long : (size : ℕ) (x : Piece) (r : ℕ) → IsLong size x → r < 2 → length (chunk_of x r) ≡ size
 unfolding chunk_of
@@ -60,93 +61,181 @@ chunk_long size x zero long h = long.zero
 chunk_long size x (suc zero) long h = long.one
 chunk_long size x (suc (suc r)) long h = absurd (omega arith)
 
+chunk_bytes : (x : Piece) (r : ℕ) → HoldsBytes x → r < 2 → AreBytes (chunk_of x r)
+unfolding chunk_of
+chunk_bytes x zero are h = are.zero
+chunk_bytes x (suc zero) are h = are.one
+chunk_bytes x (suc (suc r)) are h = absurd (omega arith)
+
 -- ---- the natives, byte by byte
-
--- pieces of the file v, the square a of their rows, and its inverse b
-pub record IsSolvable (code : CodeParts) (v : List ℕ) (pieces : List Piece) (a b : List (List ℕ)) : Type 0 where
-  pub is_code : IsCode code
-  pub bytes : AreBytes v
-  pub count : length pieces + 2 ≡ code.width
-  pub rows : HoldsRows code pieces a
-  pub inverse : IsInverse (native_count code.width) a b
-  pub chunks : All (IsPieceOf code v) pieces
-
-chunk_is : (code : CodeParts) (v : List ℕ) (pieces : List Piece) (a b : List (List ℕ)) (k : ℕ) → IsSolvable code v pieces a b → k < native_count code.width → get_or (chunks_in pieces) k [] ≡ combination (row_of a k) v code.width
-chunk_is code v pieces a b k s h =
-    let count : length pieces + 2 ≡ code.width = s.count in
-    let place : k / 2 < length pieces = omega arith in
-    let pair : k % 2 < 2 = omega arith in
-    let whole : 2 * (k / 2) + k % 2 ≡ k = omega arith in
-    let x : Piece = get_or pieces (k / 2) no_piece in
-    ap (λ j. get_or (chunks_in pieces) j []) (sym whole)
-    ∙ chunks_at pieces (k / 2) (k % 2) no_piece place pair
-    ∙ piece_chunk code v x (k % 2) (s.chunks (k / 2) no_piece place) pair
-    ∙ ap (λ row. combination row v code.width) (sym (s.rows.each (k / 2) (k % 2) no_piece place pair))
-    ∙ ap (λ j. combination (row_of a j) v code.width) whole
-
-row_bytes : (code : CodeParts) (v : List ℕ) (pieces : List Piece) (a b : List (List ℕ)) (k : ℕ) → IsSolvable code v pieces a b → k < native_count code.width → AreBytes (row_of a k)
-row_bytes code v pieces a b k s h =
-    let count : length pieces + 2 ≡ code.width = s.count in
-    let place : k / 2 < length pieces = omega arith in
-    let pair : k % 2 < 2 = omega arith in
-    let whole : 2 * (k / 2) + k % 2 ≡ k = omega arith in
-    let c : ℕ = (get_or pieces (k / 2) no_piece).cloud in
-    subst (λ row. AreBytes row) (sym (s.rows.each (k / 2) (k % 2) no_piece place pair) ∙ ap (row_of a) whole) (s.is_code.shape.bytes (2 * c + k % 2))
-
-combination_at : (row v : List ℕ) (n p : ℕ) → p < chunk_size (length v) n → get_or (combination row v n) p 0 ≡ total (native_count n) (λ i. mul (get_or row i 0) (get_or (native v n i) p 0))
-unfolding combination
-combination_at row v n p h = get_or-map-range_with_len (λ q. total (native_count n) (λ i. mul (get_or row i 0) (get_or (native v n i) q 0))) 0 (chunk_size (length v) n) p p 0 h (omega arith)
 
 mixed_at : (size : ℕ) (row : List ℕ) (sources : List (List ℕ)) (p : ℕ) → p < size → get_or (mixed size row sources) p 0 ≡ mixed_byte (length sources) row sources p
 unfolding mixed
 mixed_at size row sources p h = get_or-map-range_with_len (mixed_byte (length sources) row sources) 0 size p p 0 h (omega arith)
 
-native_back : (code : CodeParts) (v : List ℕ) (pieces : List Piece) (a b : List (List ℕ)) (i p : ℕ) → IsSolvable code v pieces a b → i < native_count code.width → p < chunk_size (length v) code.width →
-    get_or (native v code.width i) p 0 ≡ mixed_byte (length (chunks_in pieces)) (row_of b i) (chunks_in pieces) p
-native_back code v pieces a b i p s hi hp =
-    let n : ℕ = code.width in
-    let m : ℕ = native_count code.width in
-    let count : length pieces + 2 ≡ code.width = s.count in
-    let x : ℕ → ℕ = λ j. get_or (native v n j) p 0 in
-    let y : ℕ → ℕ = λ k. get_or (get_or (chunks_in pieces) k []) p 0 in
-    let vector_x : IsVector m x = λ j h. subst (λ xs. get_or xs p 0 < 256) (native_at v n j h) (native_bytes v n j s.bytes p) in
-    let sent : (k : ℕ) → k < m → times m a k x ≡ y k = λ k h.
-    sym (combination_at (row_of a k) v n p hp) ∙ ap (λ xs. get_or xs p 0) (sym (chunk_is code v pieces a b k s h)) in
-    let vector_y : IsVector m y = λ k h.
-    subst (λ w. w < 256) (sent k h) (total_lt m (λ j. mul (entry a k j) (x j)) (λ j _. mul_lt (entry a k j) (x j) (row_bytes code v pieces a b k s h j))) in
-    let many : 2 * length pieces ≡ m = omega arith in
-    s.inverse.into x y vector_x vector_y sent i hi
-    ∙ ap (λ c. total c (λ k. mul (get_or (row_of b i) k 0) (y k))) (sym (length-chunks_in pieces ∙ many))
+-- pieces whose chunks have so many bytes, the square a of their rows, and its inverse b
+pub record IsSolvable (code : CodeParts) (size : ℕ) (pieces : List Piece) (a b : List (List ℕ)) : Type 0 where
+  pub is_code : IsCode code
+  pub count : length pieces + 2 ≡ code.width
+  pub rows : HoldsRows code pieces a
+  pub inverse : IsInverse (native_count code.width) a b
+  pub long : All (IsLong size) pieces
+  pub bytes : All HoldsBytes pieces
+
+module _ (code : CodeParts) (size : ℕ) (pieces : List Piece) (a b : List (List ℕ)) (s : IsSolvable code size pieces a b) where
+  abbrev m : ℕ
+  m = native_count code.width
+
+  abbrev piece_at : ℕ → Piece
+  piece_at k = get_or pieces (k / 2) no_piece
+
+  many : length (chunks_in pieces) ≡ m
+  many = let count : length pieces + 2 ≡ code.width = s.count in let n : length (chunks_in pieces) ≡ 2 * length pieces = length-chunks_in pieces in omega arith
+
+  in_place : (k : ℕ) → k < m → k / 2 < length pieces
+  in_place k h = let count : length pieces + 2 ≡ code.width = s.count in omega arith
+
+  chunk_at : (k : ℕ) → k < m → get_or (chunks_in pieces) k [] ≡ chunk_of (piece_at k) (k % 2)
+  chunk_at k h =
+      let whole : 2 * (k / 2) + k % 2 ≡ k = omega arith in
+      ap (λ j. get_or (chunks_in pieces) j []) (sym whole) ∙ chunks_at pieces (k / 2) (k % 2) no_piece (in_place k h) (omega arith)
+
+  row_at : (k : ℕ) → k < m → row_of a k ≡ code_row code (piece_at k).cloud (k % 2)
+  row_at k h =
+      let whole : 2 * (k / 2) + k % 2 ≡ k = omega arith in
+      ap (row_of a) (sym whole) ∙ s.rows.each (k / 2) (k % 2) no_piece (in_place k h) (omega arith)
+
+  row_bytes : (k : ℕ) → k < m → AreBytes (row_of a k)
+  row_bytes k h = subst (λ row. AreBytes row) (sym (row_at k h)) (s.is_code.shape.bytes (2 * (piece_at k).cloud + k % 2))
+
+  -- byte p of each chunk
+  abbrev chunks_byte : ℕ → ℕ → ℕ
+  chunks_byte p k = get_or (get_or (chunks_in pieces) k []) p 0
+
+  chunks_vector : (p : ℕ) → IsVector m (chunks_byte p)
+  chunks_vector p k h = subst (λ xs. get_or xs p 0 < 256) (sym (chunk_at k h)) (chunk_bytes (piece_at k) (k % 2) (s.bytes (k / 2) no_piece (in_place k h)) (omega arith) p)
+
+  -- byte p of each native
+  abbrev natives_byte : List (List ℕ) → ℕ → ℕ → ℕ
+  natives_byte natives p i = get_or (get_or natives i []) p 0
+
+  -- the combinations of natives are the chunks where the rows send the natives' bytes to the chunks'
+  chunk_sent : (natives : List (List ℕ)) (k p : ℕ) → length natives ≡ m → All (IsMixOf code size natives) pieces → k < m → p < size → times m a k (natives_byte natives p) ≡ chunks_byte p k
+  chunk_sent natives k p count mixes h below =
+      let row : List ℕ = code_row code (piece_at k).cloud (k % 2) in
+      ap (λ n. total n (λ i. mul (entry a k i) (natives_byte natives p i))) (sym count)
+      ∙ ap (λ xs. mixed_byte (length natives) xs natives p) (row_at k h)
+      ∙ sym (mixed_at size row natives p below)
+      ∙ ap (λ xs. get_or xs p 0) (sym (piece_chunk code size natives (piece_at k) (k % 2) (mixes (k / 2) no_piece (in_place k h)) (omega arith)))
+      ∙ ap (λ xs. get_or xs p 0) (sym (chunk_at k h))
+
+  -- ---- the natives that the inverse makes
+
+  module _ (rows : List (List ℕ)) (count : length rows ≡ m) (first : rows ≡ take m b) where
+    abbrev made : List (List ℕ)
+    made = map (λ row. mixed size row (chunks_in pieces)) rows
+
+    made_count : length made ≡ m
+    made_count = length-map rows (λ row. mixed size row (chunks_in pieces)) ∙ count
+
+    made_at : (i : ℕ) → i < m → get_or made i [] ≡ mixed size (row_of b i) (chunks_in pieces)
+    made_at i h =
+        get_or-map (λ row. mixed size row (chunks_in pieces)) rows i [] [] (subst (λ w. i < w) (sym count) h)
+        ∙ ap (λ row. mixed size row (chunks_in pieces)) (ap (λ xs. get_or xs i []) first ∙ get_or-take m b i [] h)
+
+    made_long : (i : ℕ) → i < m → length (get_or made i []) ≡ size
+    made_long i h = ap length (made_at i h) ∙ length-mixed size (row_of b i) (chunks_in pieces)
+
+    made_byte : (i p : ℕ) → i < m → p < size → natives_byte made p i ≡ times m b i (chunks_byte p)
+    made_byte i p h below =
+        ap (λ xs. get_or xs p 0) (made_at i h)
+        ∙ mixed_at size (row_of b i) (chunks_in pieces) p below
+        ∙ ap (λ n. total n (λ k. mul (entry b i k) (chunks_byte p k))) many
+
+    made_bytes : (i : ℕ) → AreBytes (get_or made i [])
+    made_bytes i p = elim (cases_lt i m) [
+      | inl h ↦ elim (cases_lt p size) [
+        | inl below ↦ subst (λ w. w < 256) (sym (made_byte i p h below)) (total_lt m (λ k. mul (entry b i k) (chunks_byte p k)) (λ k _. mul_lt (entry b i k) (chunks_byte p k) (s.inverse.bytes i k)))
+        | inr past ↦ subst (λ w. w < 256) (sym (get_or_past (get_or made i []) p 0 (subst (λ w. w ≤ p) (sym (made_long i h)) past))) (omega arith)
+      ]
+      | inr out ↦ subst (λ xs. get_or xs p 0 < 256) (sym (get_or_past made i [] (subst (λ w. w ≤ i) (sym made_count) out))) (omega arith)
+    ]
+
+    made_vector : (p : ℕ) → IsVector m (natives_byte made p)
+    made_vector p i h = made_bytes i p
+
+    made_mix : (q r : ℕ) (d : Piece) → q < length pieces → r < 2 → chunk_of (get_or pieces q d) r ≡ mixed size (code_row code (get_or pieces q d).cloud r) made
+    made_mix q r d h pair =
+        let count : length pieces + 2 ≡ code.width = s.count in
+        let within : 2 * q + r < m = omega arith in
+        let row : List ℕ = code_row code (get_or pieces q d).cloud r in
+        let long : length (chunk_of (get_or pieces q d) r) ≡ size = chunk_long size (get_or pieces q d) r (s.long q d h) pair in
+        same_number_lists _ _ (long ∙ sym (length-mixed size row made)) (λ p inside.
+        let below : p < size = subst (λ w. p < w) long inside in
+        ap (λ xs. get_or xs p 0) (sym (chunks_at pieces q r d h pair))
+        ∙ sym (s.inverse.out_of (natives_byte made p) (chunks_byte p) (made_vector p) (chunks_vector p) (λ i hi. made_byte i p hi below) (2 * q + r) within)
+        ∙ ap (λ n. total n (λ i. mul (entry a (2 * q + r) i) (natives_byte made p i))) (sym made_count)
+        ∙ ap (λ xs. mixed_byte (length made) xs made p) (s.rows.each q r d h pair)
+        ∙ sym (mixed_at size row made p below))
+
+    made_pieces : All (IsMixOf code size made) pieces
+    unfolding chunk_of
+    made_pieces q d h = record { zero = made_mix q 0 d h (omega arith); one = made_mix q 1 d h (omega arith) }
+
+    made_solve : (len : ℕ) → size ≡ chunk_size len code.width → Solves code len pieces made
+    made_solve len is = record {
+      count = made_count;
+      long = λ i h. made_long i (subst (λ w. i < w) made_count h) ∙ is;
+      bytes = made_bytes;
+      mixes = subst (λ z. All (IsMixOf code z made) pieces) is made_pieces;
+    }
+
+    -- natives that solve the pieces are these
+    made_only : (len : ℕ) (others : List (List ℕ)) → size ≡ chunk_size len code.width → Solves code len pieces others → others ≡ made
+    made_only len others is solve =
+        let mixes : All (IsMixOf code size others) pieces = subst (λ z. All (IsMixOf code z others) pieces) (sym is) solve.mixes in
+        same_lists others made (solve.count ∙ sym made_count) (λ i d within.
+        let h : i < m = subst (λ w. i < w) solve.count within in
+        let long : length (get_or others i []) ≡ size = solve.long i within ∙ sym is in
+        get_or_default others i d [] within
+        ∙ same_number_lists _ _ (long ∙ sym (made_long i h)) (λ p inside.
+        let below : p < size = subst (λ w. p < w) long inside in
+        s.inverse.into (natives_byte others p) (chunks_byte p) (λ j hj. solve.bytes j p) (chunks_vector p)
+        (λ k hk. chunk_sent others k p solve.count mixes hk below) i h
+        ∙ sym (made_byte i p h below))
+        ∙ sym (get_or_default made i d [] (subst (λ w. i < w) (sym made_count) h)))
+
+    pub solution : (len : ℕ) (file : List ℕ) → size ≡ chunk_size len code.width → file ≡ take len (solved size (chunks_in pieces) rows) → IsSolution code len pieces file
+    solution len file is same = record {
+      natives = made;
+      solve = made_solve len is;
+      only = λ others solve. made_only len others is solve;
+      first = same;
+    }
 
 -- ---- the file
 
-native_mixed : (code : CodeParts) (v : List ℕ) (pieces : List Piece) (a b : List (List ℕ)) (i : ℕ) → IsSolvable code v pieces a b → i < native_count code.width →
-    mixed (chunk_size (length v) code.width) (row_of b i) (chunks_in pieces) ≡ native v code.width i
-native_mixed code v pieces a b i s h =
-    let n : ℕ = code.width in
-    let size : ℕ = chunk_size (length v) code.width in
-    let long : length (mixed size (row_of b i) (chunks_in pieces)) ≡ size = length-mixed size (row_of b i) (chunks_in pieces) in
-    same_number_lists _ _ (long ∙ sym (length-piece v (i * size) size))
-    (λ p below. let within : p < size = subst (λ w. p < w) long below in
-    mixed_at size (row_of b i) (chunks_in pieces) p within ∙ sym (native_back code v pieces a b i p s h within))
+-- the natives of a file solve its pieces
+natives_solve : (code : CodeParts) (v : List ℕ) (pieces : List Piece) → AreBytes v → All (IsPieceOf code v) pieces → Solves code (length v) pieces (natives_of v code.width)
+natives_solve code v pieces bytes chunks = record {
+  count = natives_count v code.width;
+  long = natives_long v code.width;
+  bytes = λ i. native_bytes v code.width i bytes;
+  mixes = λ q d h. record {
+    zero = (chunks q d h).zero ∙ sym (mixed_natives v (code_row code (get_or pieces q d).cloud 0) code.width);
+    one = (chunks q d h).one ∙ sym (mixed_natives v (code_row code (get_or pieces q d).cloud 1) code.width);
+  };
+}
 
-pub file_back : (code : CodeParts) (v : List ℕ) (pieces : List Piece) (a b rows : List (List ℕ)) (size len : ℕ) → IsSolvable code v pieces a b →
-    length rows ≡ native_count code.width → rows ≡ take (native_count code.width) b → size ≡ chunk_size len code.width → length v ≡ len →
-    take len (solved size (chunks_in pieces) rows) ≡ v
-file_back code v pieces a b rows size len s many same is_size is_len =
+-- the solution of a file's pieces is the file
+pub file_back : (code : CodeParts) (v : List ℕ) (pieces : List Piece) (len : ℕ) (file : List ℕ) → 4 ≤ code.width → IsSolution code len pieces file → AreBytes v → length v ≡ len → All (IsPieceOf code v) pieces → file ≡ v
+file_back code v pieces len file wide s bytes long chunks =
     let n : ℕ = code.width in
-    let m : ℕ = native_count code.width in
-    let f : List ℕ → List ℕ = λ row. mixed size row (chunks_in pieces) in
-    let size_is : size ≡ chunk_size (length v) n = is_size ∙ ap (λ l. chunk_size l n) (sym is_len) in
-    let natives : map f rows ≡ natives_of v n =
-    fill_by_all (native v n) (map f rows) m [] (length-map rows f ∙ many) (λ i h.
-    get_or-map f rows i [] [] (subst (λ w. i < w) (sym many) h)
-    ∙ ap f (ap (λ xs. get_or xs i []) same ∙ get_or-take m b i [] h)
-    ∙ ap (λ z. mixed z (row_of b i) (chunks_in pieces)) size_is
-    ∙ native_mixed code v pieces a b i s h) in
-    ap (λ l. take l (solved size (chunks_in pieces) rows)) (sym is_len)
-    ∙ ap (λ ns. take (length v) (concat ns)) natives
-    ∙ natives_back v n s.is_code.wide
+    let natives : natives_of v n ≡ s.natives = s.only (natives_of v n) (subst (λ l. Solves code l pieces (natives_of v n)) long (natives_solve code v pieces bytes chunks)) in
+    s.first
+    ∙ ap (λ ns. take len (concat ns)) (sym natives)
+    ∙ ap (λ l. take l (concat (natives_of v n))) (sym long)
+    ∙ natives_back v n wide
 
 -- ---- the rows are independent
 

@@ -1,7 +1,8 @@
--- The pieces that a file comes back from.
-use Rattle.std.specs.Prelude.{ℕ, ◌≡◌, ◌+◌, ◌*◌, ◌<◌, List, [], ◌∷◌, length, map, slice_index_or}
-use Rattle.std.specs.List.{concat}
-use Rattle.nc_native.specs.Native.{combination}
+-- The pieces that a file comes back from, and what they give.
+use Rattle.std.specs.Prelude.{ℕ, ◌≡◌, ◌+◌, ◌*◌, ◌<◌, List, [], ◌∷◌, length, map, slice_index_or, take}
+use Rattle.std.specs.List.{All, concat}
+use Rattle.nc_bytes.specs.Bytes.{AreBytes}
+use Rattle.nc_native.specs.Native.{AllLong, chunk_size, combination}
 use Rattle.nc_code.specs.Parts.{CodeParts}
 use Rattle.nc_code.specs.Codes.{code_row}
 use Rattle.nc_gf256.specs.Width.{native_count}
@@ -14,10 +15,34 @@ pub record IsPieceOf (code : CodeParts) (v : List ℕ) (piece : Piece) : Type 0 
   pub zero : piece.zero ≡ combination (code_row code piece.cloud 0) v code.width
   pub one : piece.one ≡ combination (code_row code piece.cloud 1) v code.width
 
+-- the chunks are the combinations of these natives, of so many bytes each, by the rows of their cloud
+pub record IsMixOf (code : CodeParts) (size : ℕ) (natives : List (List ℕ)) (piece : Piece) : Type 0 where
+  pub zero : piece.zero ≡ mixed size (code_row code piece.cloud 0) natives
+  pub one : piece.one ≡ mixed size (code_row code piece.cloud 1) natives
+
+-- natives of a file of `len` bytes whose combinations by the rows of the pieces' clouds are the pieces
+pub record Solves (code : CodeParts) (len : ℕ) (pieces : List Piece) (natives : List (List ℕ)) : Type 0 where
+  pub count : length natives ≡ native_count code.width
+  pub long : AllLong (chunk_size len code.width) natives
+  pub bytes : (i : ℕ) → AreBytes (slice_index_or natives i [])
+  pub mixes : All (IsMixOf code (chunk_size len code.width) natives) pieces
+
+-- the first `len` bytes of the natives that solve the pieces; no others do
+pub record IsSolution (code : CodeParts) (len : ℕ) (pieces : List Piece) (file : List ℕ) : Type 0 where
+  pub natives : List (List ℕ)
+  pub solve : Solves code len pieces natives
+  pub only : (others : List (List ℕ)) → Solves code len pieces others → others ≡ natives
+  pub first : file ≡ take len (concat natives)
+
 -- both chunks have so many bytes
 pub record IsLong (size : ℕ) (piece : Piece) : Type 0 where
   pub zero : length piece.zero ≡ size
   pub one : length piece.one ≡ size
+
+-- both chunks are bytes
+pub record HoldsBytes (piece : Piece) : Type 0 where
+  pub zero : AreBytes piece.zero
+  pub one : AreBytes piece.one
 
 -- the first piece is of a lower cloud
 abbrev pub IsBefore : Piece → Piece → Type 0

@@ -6,11 +6,12 @@ ghost use Rattle.nc_gf256.specs.Width.{native_count};
 ghost use Rattle.nc_native.specs.Native.{AllLong, chunk_size};
 ghost use Rattle.nc_code.specs.Codes.{IsMds};
 ghost use Rattle.nc_mix.specs.Mixing.{lent};
-ghost use Rattle.nc_mix.specs.Decoding.{HoldsRows, Inverts, IsBefore, IsLong, IsPieceOf, chunks_in, solved};
+ghost use Rattle.nc_mix.specs.Decoding.{HoldsBytes, HoldsRows, Inverts, IsBefore, IsLong, IsPieceOf, IsSolution, chunks_in, solved};
 
 use crate::adding::{add_all, zeros};
 use crate::gates::Gate;
 use crate::pieces::Piece;
+use nc_bytes::told_bytes;
 use nc_code::Code;
 use nc_matrix::{Outcome, Square, invert};
 use nc_name::{Blob, Memory};
@@ -18,8 +19,9 @@ use nc_native::chunk_size;
 use std::alloc::Global;
 use std::thread::Threads;
 
-/// The file of `len` bytes whose combinations the pieces are. There are `width - 2` pieces, of distinct clouds in ascending
-/// order, and each chunk has the size of a chunk of such a file. Workers and gate change nothing in the answer.
+/// The first `len` bytes of the natives whose combinations the pieces are. There are `width - 2` pieces, of distinct clouds in
+/// ascending order, and each chunk has the size of a chunk of a file of `len` bytes. Workers and gate change nothing in the
+/// answer.
 pub fn decode<R: Threads + Sync, G: Gate + Sync>(
     rt: &R,
     alloc: Global,
@@ -36,13 +38,25 @@ pub fn decode<R: Threads + Sync, G: Gate + Sync>(
     requires long { All (IsLong (chunk_size len code.now.width)) pieces.now }
     requires some_worker { 1 ≤ workers }
     requires few_workers { workers ≤ 16 }
+    ensures solved { IfOk result (IsSolution code.now len pieces.now) }
     ensures length { IfOk result (λ file. length file ≡ len) }
     ensures file { IfOk result (λ file. (v : List ℕ) → AreBytes v → length v ≡ len → All (IsPieceOf code.now v) pieces.now → file ≡ v) }
 {
+    told_chunks(pieces);
     let size = chunk_size(len, code.width()) as usize;
     let inverse = inverse_of(pieces, code);
     let rows = first_rows(&inverse.cells, inverse.size as usize);
     decode_with(rt, alloc, pieces, rows, size, len as usize, workers, gate)
+}
+
+/// Tells that what the pieces hold are bytes.
+fn told_chunks(pieces: &[Piece])
+    ensures { All HoldsBytes pieces.now }
+{
+    for piece in pieces {
+        told_bytes(piece.zero.bytes());
+        told_bytes(piece.one.bytes());
+    }
 }
 
 /// The inverse of the square of the pieces' rows, which the code being MDS promises.

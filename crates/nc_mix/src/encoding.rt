@@ -4,9 +4,9 @@ ghost use Rattle.nc_gf256.specs.Width.{native_count};
 ghost use Rattle.nc_native.specs.Native.{natives_of, native_len, AllLong};
 ghost use Rattle.nc_mix.specs.Mixing.{AreChunksOf, chunks_of, lent};
 
+use crate::Chunks;
 use crate::adding::mix;
 use crate::gates::Gate;
-use crate::Chunks;
 use nc_code::Code;
 use nc_name::{Blob, Memory};
 use nc_native::Natives;

@@ -11,9 +11,8 @@ mod pieces;
 pub use decoding::decode;
 pub use encoding::encode;
 pub use gates::{Gate, Open};
-pub use pieces::Piece;
-
 use nc_name::{Blob, Sequence};
+pub use pieces::Piece;
 
 /// The chunks that the clouds hold of a file, two for each cloud, in order.
 pub type Chunks = Sequence<Blob>;

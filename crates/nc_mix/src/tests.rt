@@ -199,24 +199,3 @@ fn each_pair_of_clouds_may_be_lost(rt: HostRuntime) -> Result<(), Fail> {
     }
     Ok(())
 }
-
-#[test]
-fn any_two_clouds_give_the_file(rt: HostRuntime) -> Result<(), Fail> {
-    let held: [([u8; 2], [u8; 2]); 4] = [
-        (*b"ab", *b"cd"),
-        (*b"ef", *b"gh"),
-        ([0x04, 0x04], [0x04, 0x0C]),
-        ([0xAB, 0xAE], [0xAD, 0xB4]),
-    ];
-    let code = striped(4);
-    for (a, b) in [(0u8, 1u8), (0, 2), (0, 3), (1, 2), (1, 3), (2, 3)] {
-        let (first, second) = (held[a as usize], held[b as usize]);
-        let pieces = [
-            piece(rt.alloc(), a, &first.0, &first.1, 2)?,
-            piece(rt.alloc(), b, &second.0, &second.1, 2)?,
-        ];
-        let file = decoded(&rt, rt.alloc(), &pieces, &code, 8)?.ok_or("not MDS")?;
-        assert_eq!(rt; file.bytes(), b"abcdefgh".as_slice());
-    }
-    Ok(())
-}

@@ -3,8 +3,8 @@ use Rattle.std.proofs.lemmas.Result.{IfOk-weaker}
 use Rattle.nc_bytes.specs.Bytes.{AreBytes}
 use Rattle.nc_native.specs.Native.{AllLong, chunk_size}
 use Rattle.std.specs.List.{All}
-use Rattle.nc_mix.specs.Decoding.{IsPieceOf, chunks_in, solved}
-use Rattle.nc_mix.proofs.FileBack.{length-chunks_in, chunks_long, file_back, length_back}
+use Rattle.nc_mix.specs.Decoding.{IsPieceOf, IsLong, IsSolution, chunks_in, solved}
+use Rattle.nc_mix.proofs.FileBack.{length-chunks_in, chunks_long, solution, file_back, length_back}
 use Rattle.nc_mix.proofs.decoding.decode.Goals as goal
 
 pub decode_with-requires-clause-count : goal.decode_with-requires-clause-count
@@ -28,17 +28,24 @@ returns-clause-length g c =
     ∙ length_back c.args.code.now.width c.args.len c.chunk_size-size.result (chunks_in c.args.pieces.now) c.first_rows-rows.result.now c.width.ensures.kept.wide (c.first_rows-rows.ensures.count ∙ c.inverse_of-inverse.ensures.size) size)
     c.decode_with.ensures
 
-pub returns-clause-file : goal.returns-clause-file
-returns-clause-file g c =
+pub returns-clause-solved : goal.returns-clause-solved
+returns-clause-solved g c =
     let size : c.chunk_size-size.result ≡ chunk_size c.args.len c.args.code.now.width = c.chunk_size-size.ensures ∙ ap (chunk_size c.args.len) c.width.ensures.width in
     let inverts = c.inverse_of-inverse.ensures.inverse in
     let wanted : List ℕ = take c.args.len (solved c.chunk_size-size.result (chunks_in c.args.pieces.now) c.first_rows-rows.result.now) in
-    IfOk-weaker c.decode_with.result (λ (file : List ℕ). file ≡ wanted)
-    (λ (file : List ℕ). (v : List ℕ) → AreBytes v → length v ≡ c.args.len → All (IsPieceOf c.args.code.now v) c.args.pieces.now → file ≡ v)
-    (λ file is v bytes long chunks. is
-    ∙ file_back c.args.code.now v c.args.pieces.now inverts.rows c.inverse_of-inverse.result.cells c.first_rows-rows.result.now c.chunk_size-size.result c.args.len
-    (record { is_code = c.width.ensures.kept; bytes = bytes; count = c.requires.count; rows = inverts.holds; inverse = inverts.inverse; chunks = chunks })
+    IfOk-weaker c.decode_with.result (λ (file : List ℕ). file ≡ wanted) (IsSolution c.args.code.now c.args.len c.args.pieces.now)
+    (λ file is.
+    solution c.args.code.now c.chunk_size-size.result c.args.pieces.now inverts.rows c.inverse_of-inverse.result.cells
+    (record { is_code = c.width.ensures.kept; count = c.requires.count; rows = inverts.holds; inverse = inverts.inverse; long = subst (λ z. All (IsLong z) c.args.pieces.now) (sym size) c.requires.long; bytes = c.told_chunks.ensures })
+    c.first_rows-rows.result.now
     (c.first_rows-rows.ensures.count ∙ c.inverse_of-inverse.ensures.size)
     (c.first_rows-rows.ensures.rows ∙ ap (λ k. take k c.inverse_of-inverse.result.cells) c.inverse_of-inverse.ensures.size)
-    size long)
+    c.args.len file size is)
     c.decode_with.ensures
+
+pub returns-clause-file : goal.returns-clause-file
+returns-clause-file g c =
+    IfOk-weaker c.decode_with.result (IsSolution c.args.code.now c.args.len c.args.pieces.now)
+    (λ (file : List ℕ). (v : List ℕ) → AreBytes v → length v ≡ c.args.len → All (IsPieceOf c.args.code.now v) c.args.pieces.now → file ≡ v)
+    (λ file is v bytes long chunks. file_back c.args.code.now v c.args.pieces.now c.args.len file c.width.ensures.kept.wide is bytes long chunks)
+    (returns-clause-solved g c)
