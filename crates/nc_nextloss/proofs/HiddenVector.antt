@@ -21,26 +21,16 @@ pub record IsHidden (n q a b c : ℕ) (u : ℕ → ℕ) : Type 0 where
   pub powers : n - 1 ≢ a → n - 1 ≢ b → n - 1 ≢ c → along n q (λ d. 2 ^ d) (stripe q u) ≡ 0
 
 -- the order of the three clouds does not matter
-swapped : (n q a b c : ℕ) (u : ℕ → ℕ) → IsHidden n q a b c u → IsHidden n q b a c u
-swapped n q a b c u h = record {
+reordered : (n q a b c x y z : ℕ) (u : ℕ → ℕ) → ((k : ℕ) → k ≢ x → k ≢ y → k ≢ z → (k ≢ a) × (k ≢ b) × (k ≢ c))
+    → IsHidden n q a b c u → IsHidden n q x y z u
+reordered n q a b c x y z u same h = record {
   place = h.place;
   low = h.low;
   not_zero = h.not_zero;
   bytes = h.bytes;
-  only = λ k low nb na nc. h.only k low na nb nc;
-  sums = λ nb na nc. h.sums na nb nc;
-  powers = λ nb na nc. h.powers na nb nc;
-}
-
-rotated : (n q a b c : ℕ) (u : ℕ → ℕ) → IsHidden n q a b c u → IsHidden n q b c a u
-rotated n q a b c u h = record {
-  place = h.place;
-  low = h.low;
-  not_zero = h.not_zero;
-  bytes = h.bytes;
-  only = λ k low nb nc na. h.only k low na nb nc;
-  sums = λ nb nc na. h.sums na nb nc;
-  powers = λ nb nc na. h.powers na nb nc;
+  only = λ k low nx ny nz. let ne = same k nx ny nz in h.only k low ne.0 ne.1 ne.2;
+  sums = λ nx ny nz. let ne = same (n - 2) nx ny nz in h.sums ne.0 ne.1 ne.2;
+  powers = λ nx ny nz. let ne = same (n - 1) nx ny nz in h.powers ne.0 ne.1 ne.2;
 }
 
 -- ---- the entries
@@ -227,10 +217,10 @@ sorted n q x y z wide narrow pair xy yz within = elim (cases_lt z (n - 2)) [
 ]
 
 swap : (n q a b c : ℕ) → Hidden n q a b c → Hidden n q b a c
-swap n q a b c h = (h.0, swapped n q a b c h.0 h.1)
+swap n q a b c h = (h.0, reordered n q a b c b a c h.0 (λ k nb na nc. (na, nb, nc)) h.1)
 
 turn : (n q a b c : ℕ) → Hidden n q a b c → Hidden n q b c a
-turn n q a b c h = (h.0, rotated n q a b c h.0 h.1)
+turn n q a b c h = (h.0, reordered n q a b c b c a h.0 (λ k nb nc na. (na, nb, nc)) h.1)
 
 -- for any three clouds, where the first two are in order
 pub hidden : (n q a b c : ℕ) → 4 ≤ n → n ≤ 10 → q < 2 → a < b → b < n → c < n → c ≢ a → c ≢ b → Hidden n q a b c

@@ -6,7 +6,7 @@ ghost use Rattle.nc_gf256.specs.Width.{native_count};
 
 use super::*;
 use crate::drawing::fill;
-use nc_code::{Code, Plan, Witnesses, repaired, same_code, striped};
+use nc_code::{Code, Plan, Witnesses, repaired, same_code, same_plan, same_witnesses, striped};
 use nc_mds::{Verdict, check};
 use nc_name::Name;
 use nc_nextloss::GoodCode;
@@ -99,14 +99,6 @@ fn plain_plan(width: u8, lost: u8, base: &[u8; 10], stream: &[u8], at: usize) ->
     Plan::new(&choice, &[zero, one])
 }
 
-// The bytes of a plan.
-fn plan_bytes(width: u8) -> usize
-    requires wide { 4 ≤ width }
-    requires narrow { width ≤ 10 }
-{
-    2 * width as usize - 1
-}
-
 // The first of sixteen tries that is a witness.
 fn plain_try(code: &Code, lost: u8, base: &[u8; 10], stream: &[u8], at: usize) -> Option<Plan>
     requires lost { lost < code.now.width }
@@ -118,29 +110,24 @@ fn plain_try(code: &Code, lost: u8, base: &[u8; 10], stream: &[u8], at: usize) -
         if is_mds(&repaired(code, lost, &plan)) {
             return Some(plan);
         }
-        here = here.saturating_add(plan_bytes(width));
+        here = here.saturating_add(2 * width as usize - 1);
     }
     None
 }
 
-// The bytes of the tries for one loss.
-fn tries_bytes(width: u8) -> usize
-    requires wide { 4 ≤ width }
-    requires narrow { width ≤ 10 }
-{
-    16 * (2 * width as usize - 1)
-}
-
-// A plan for each loss: for cloud `own` this plan, for each other one the first try that is a witness.
-fn plain_witnesses(
+// A candidate with its code, where it is good: for cloud `own` this plan, for each other one the first try that is a witness.
+fn plain_good(
     code: &Code,
     base: &[u8; 10],
     own: u8,
     plan: &Plan,
     stream: &[u8],
     at: usize,
-) -> Option<Witnesses> {
+) -> Option<Good> {
     let width = code.width();
+    if !is_mds(code) {
+        return None;
+    }
     let mut plans = [Plan::none(); 10];
     let mut here = at;
     for lost in 0..width {
@@ -151,10 +138,14 @@ fn plain_witnesses(
                 Some(found) => plans[lost as usize] = found,
                 None => return None,
             }
-            here = here.saturating_add(tries_bytes(width));
+            here = here.saturating_add(16 * (2 * width as usize - 1));
         }
     }
-    Some(Witnesses { plans })
+    Some(Good {
+        plan: *plan,
+        code: *code,
+        witnesses: Witnesses { plans },
+    })
 }
 
 fn plain_start(width: u8, stream: &[u8], at: usize) -> Option<Good>
@@ -162,20 +153,9 @@ fn plain_start(width: u8, stream: &[u8], at: usize) -> Option<Good>
     requires narrow { width ≤ 10 }
 {
     let code = plain_code(width, stream, at);
-    if !is_mds(&code) {
-        return None;
-    }
-    let plan = Plan::none();
     let rows = 2 * width as usize * (2 * (width as usize - 2));
     let tries = at.saturating_add(rows);
-    match plain_witnesses(&code, &[0; 10], 255, &plan, stream, tries) {
-        Some(witnesses) => Some(Good {
-            plan,
-            code,
-            witnesses,
-        }),
-        None => None,
-    }
+    plain_good(&code, &[0; 10], 255, &Plan::none(), stream, tries)
 }
 
 // The choices turned over, but for the lost cloud's.
@@ -187,26 +167,6 @@ fn plain_turned(lost: u8, plan: &Plan) -> [u8; 10] {
         }
     }
     base
-}
-
-fn plain_repair(code: &Code, lost: u8, plan: &Plan, stream: &[u8], at: usize) -> Option<Good>
-    requires lost { lost < code.now.width }
-{
-    let width = code.width();
-    let again = repaired(code, lost, plan);
-    if !is_mds(&again) {
-        return None;
-    }
-    let base = plain_turned(lost, plan);
-    let tries = at.saturating_add(plan_bytes(width));
-    match plain_witnesses(&again, &base, lost, plan, stream, tries) {
-        Some(witnesses) => Some(Good {
-            plan: *plan,
-            code: again,
-            witnesses,
-        }),
-        None => None,
-    }
 }
 
 // The plan of a candidate for a repair, whose block begins at this place.
@@ -232,180 +192,128 @@ fn plain_repair_plan(
     }
 }
 
+fn plain_repair(code: &Code, lost: u8, plan: &Plan, stream: &[u8], at: usize) -> Option<Good>
+    requires lost { lost < code.now.width }
+{
+    let width = code.width();
+    let again = repaired(code, lost, plan);
+    let tries = at.saturating_add(2 * width as usize - 1);
+    plain_good(&again, &plain_turned(lost, plan), lost, plan, stream, tries)
+}
+
 // So many bytes of a key's stream, from its beginning on.
 fn draw(key: &[u8; 32], stream: &mut [u8]) {
     let mut rng = ChaCha20Rng::from_seed(*key);
     rng.fill_bytes(stream);
 }
 
-// All candidates for a new code, each where it is good. Their blocks take 480 bytes at width 4, and 3360 at width 10.
-fn plain_starts(width: u8, key: &[u8; 32], budget: u16, block: usize) -> [Option<Good>; 16]
+// The first good one of all candidates for a new code. Their blocks take 480 bytes at width 4, and 3360 at width 10.
+fn plain_first_start(width: u8, key: &[u8; 32], budget: u16, block: usize) -> Option<(u16, Good)>
     requires wide { 4 ≤ width }
     requires narrow { width ≤ 10 }
-    requires few { budget ≤ 16 }
 {
     let mut stream = [0; 53760];
     draw(key, &mut stream);
-    let mut list = [None; 16];
+    let mut first = None;
     let mut at: usize = 0;
     for index in 0..budget {
-        list[index as usize] = plain_start(width, &stream, at);
+        if let Some(good) = plain_start(width, &stream, at) {
+            first = first.or(Some((index, good)));
+        }
         at = at.saturating_add(block);
     }
-    list
+    first
 }
 
-// All candidates for a repair, each where it is good. Their blocks take 343 bytes at width 4, and 2755 at width 10; each
+// The first good one of all candidates for a repair. Their blocks take 343 bytes at width 4, and 2755 at width 10; each
 // begins at a whole word, which is a byte later.
-fn plain_repairs(
+fn plain_first_repair(
     code: &Code,
     stored: Option<&Plan>,
     lost: u8,
     key: &[u8; 32],
     budget: u16,
     block: usize,
-) -> [Option<Good>; 16]
+) -> Option<(u16, Good)>
     requires lost { lost < code.now.width }
-    requires few { budget ≤ 16 }
 {
     let width = code.width();
     let mut stream = [0; 53760];
     draw(key, &mut stream);
-    let mut list = [None; 16];
+    let mut first = None;
     let mut at: usize = 0;
     for index in 0..budget {
         let plan = plain_repair_plan(width, stored, lost, index, &stream, at);
-        list[index as usize] = plain_repair(code, lost, &plan, &stream, at);
+        if let Some(good) = plain_repair(code, lost, &plan, &stream, at) {
+            first = first.or(Some((index, good)));
+        }
         at = at.saturating_add(block);
     }
-    list
+    first
 }
 
-fn first_good(list: &[Option<Good>; 16]) -> Option<(u16, Good)> {
-    for index in 0..16u16 {
-        if let Some(good) = list[index as usize] {
-            return Some((index, good));
-        }
-    }
-    None
-}
+// ---- what the searches find
 
-// The search for a new code finds what the filter finds.
-fn starts_agree(rt: &impl Abort, width: u8, key: &[u8; 32], budget: u16, block: usize)
+fn found_start(width: u8, fill: u8, budget: u16) -> Option<(u16, Plan, GoodCode)>
     requires wide { 4 ≤ width }
     requires narrow { width ≤ 10 }
-    requires few { budget ≤ 16 }
+    requires most { budget ≤ 4096 }
 {
-    let wanted = first_good(&plain_starts(width, key, budget, block));
-    match find_start(width, key, budget) {
-        Start::Spent(tried) => {
-            assert_eq!(rt; tried, budget);
-            assert!(rt; wanted.is_none());
-        }
-        Start::Found { index, good } => match wanted {
-            None => panic!(rt; "the filter finds none"),
-            Some((first, wanted)) => {
-                assert_eq!(rt; index, first);
-                assert!(rt; same_code(good.code(), &wanted.code));
-                same_plans(rt, good.witnesses(), &wanted.witnesses);
-            }
-        },
+    match find_start(width, &[fill; 32], budget) {
+        Start::Found { index, good } => Some((index, Plan::none(), good)),
+        Start::Spent(_) => None,
     }
 }
 
-// The search for a repair of cloud 7 of ten finds what the filter finds.
-fn repairs_agree(rt: &impl Abort, code: &Code, stored: Option<&Plan>, key: &[u8; 32])
-    requires width { code.now.width ≡ 10 }
-    requires bare { IfSome stored (λ plan. IsBare 10 7 plan.now) }
+fn found_repair(
+    code: &Code,
+    stored: Option<&Plan>,
+    lost: u8,
+    fill: u8,
+    budget: u16,
+) -> Option<(u16, Plan, GoodCode)>
+    requires lost { lost < code.now.width }
+    requires bare { IfSome stored (λ plan. IsBare code.now.width lost plan.now) }
+    requires most { budget ≤ 4096 }
 {
-    let wanted = first_good(&plain_repairs(code, stored, 7, key, 4, 2756));
-    match find_repair(code, stored, 7, key, 4) {
-        Mend::Spent(_) => panic!(rt; "the search finds none"),
-        Mend::Found { index, plan, good } => match wanted {
-            None => panic!(rt; "the filter finds none"),
-            Some((first, wanted)) => {
-                assert_eq!(rt; index, first);
-                assert_eq!(rt; plan.choice, wanted.plan.choice);
-                assert_eq!(rt; plan.coefs, wanted.plan.coefs);
-                assert!(rt; same_code(good.code(), &wanted.code));
-                same_plans(rt, good.witnesses(), &wanted.witnesses);
-            }
-        },
+    match find_repair(code, stored, lost, &[fill; 32], budget) {
+        Mend::Found { index, plan, good } => Some((index, plan, good)),
+        Mend::Spent(_) => None,
     }
 }
 
-fn same_plans(rt: &impl Abort, a: &Witnesses, b: &Witnesses) {
-    for lost in 0..10u8 {
-        assert_eq!(rt; a.plan(lost).choice, b.plan(lost).choice);
-        assert_eq!(rt; a.plan(lost).coefs, b.plan(lost).coefs);
+// The search finds what the filter finds.
+fn agree(rt: &impl Abort, found: Option<(u16, Plan, GoodCode)>, wanted: Option<(u16, Good)>) {
+    match found {
+        None => assert!(rt; wanted.is_none()),
+        Some((index, plan, good)) => match wanted {
+            None => panic!(rt; "the filter finds none"),
+            Some((first, wanted)) => {
+                assert_eq!(rt; index, first);
+                assert!(rt; same_plan(&plan, &wanted.plan));
+                assert!(rt; same_code(good.code(), &wanted.code));
+                assert!(rt; same_witnesses(good.witnesses(), &wanted.witnesses));
+            }
+        },
     }
 }
 
 #[test]
 fn a_search_finds_what_a_plain_filter_finds(rt: HostRuntime) {
     for fill in [22u8, 14, 19] {
+        let key = [fill; 32];
         for budget in [1u16, 8] {
-            starts_agree(&rt, 4, &[fill; 32], budget, 480);
-            starts_agree(&rt, 10, &[fill; 32], budget, 3360);
+            agree(
+                &rt,
+                found_start(4, fill, budget),
+                plain_first_start(4, &key, budget, 480),
+            );
+            agree(
+                &rt,
+                found_start(10, fill, budget),
+                plain_first_start(10, &key, budget, 3360),
+            );
         }
-    }
-}
-
-#[test]
-fn a_repair_is_what_a_plain_filter_finds(rt: HostRuntime) -> Result<(), Fail> {
-    let (code, stored) = ten_clouds().ok_or("no code")?;
-    for fill in [42u8, 48] {
-        repairs_agree(&rt, &code, None, &[fill; 32]);
-        repairs_agree(&rt, &code, Some(&stored), &[fill; 32]);
-    }
-    let striped = striped(4);
-    assert!(rt; first_good(&plain_repairs(&striped, None, 1, &[0; 32], 16, 344)).is_none());
-    assert!(rt;
-        matches!(
-            find_repair(&striped, None, 1, &[0; 32], 16),
-            Mend::Spent(16)
-        )
-    );
-    Ok(())
-}
-
-// ---- what another program drew
-
-fn start_index(width: u8, fill: u8, budget: u16) -> Option<u16>
-    requires wide { 4 ≤ width }
-    requires narrow { width ≤ 10 }
-    requires most { budget ≤ 4096 }
-{
-    match find_start(width, &[fill; 32], budget) {
-        Start::Found { index, .. } => Some(index),
-        Start::Spent(_) => None,
-    }
-}
-
-#[test]
-fn the_first_good_candidate_counts(rt: HostRuntime) {
-    assert_eq!(rt; start_index(4, 14, 1), Some(0));
-    assert_eq!(rt; start_index(4, 22, 8), Some(1));
-    assert_eq!(rt; start_index(10, 14, 3), Some(2));
-    assert_eq!(rt; start_index(10, 19, 8), Some(6));
-}
-
-#[test]
-fn a_search_is_spent_at_its_budget(rt: HostRuntime) {
-    assert!(rt; matches!(find_start(4, &[22; 32], 1), Start::Spent(1)));
-    assert!(rt; matches!(find_start(10, &[14; 32], 2), Start::Spent(2)));
-    let code = striped(4);
-    assert!(rt; matches!(find_repair(&code, None, 1, &[0; 32], 64), Mend::Spent(64)));
-    assert!(rt; matches!(find_repair(&code, None, 1, &[0; 32], 1), Mend::Spent(1)));
-}
-
-fn repaired_at_ten(code: &Code, stored: Option<&Plan>, fill: u8) -> Option<(u16, Plan, GoodCode)>
-    requires width { code.now.width ≡ 10 }
-    requires bare { IfSome stored (λ plan. IsBare 10 7 plan.now) }
-{
-    match find_repair(code, stored, 7, &[fill; 32], 16) {
-        Mend::Found { index, plan, good } => Some((index, plan, good)),
-        Mend::Spent(_) => None,
     }
 }
 
@@ -428,9 +336,50 @@ fn ten_clouds() -> Option<(Code, Plan)>
 }
 
 #[test]
+fn a_repair_is_what_a_plain_filter_finds(rt: HostRuntime) -> Result<(), Fail> {
+    let (code, stored) = ten_clouds().ok_or("no code")?;
+    for fill in [42u8, 48] {
+        let key = [fill; 32];
+        let plain = plain_first_repair(&code, None, 7, &key, 4, 2756);
+        agree(&rt, found_repair(&code, None, 7, fill, 4), plain);
+        let plain = plain_first_repair(&code, Some(&stored), 7, &key, 4, 2756);
+        agree(&rt, found_repair(&code, Some(&stored), 7, fill, 4), plain);
+    }
+    let striped = striped(4);
+    assert!(rt; plain_first_repair(&striped, None, 1, &[0; 32], 16, 344).is_none());
+    assert!(rt;
+        matches!(
+            find_repair(&striped, None, 1, &[0; 32], 16),
+            Mend::Spent(16)
+        )
+    );
+    Ok(())
+}
+
+// ---- what another program drew
+
+#[test]
+fn the_first_good_candidate_counts(rt: HostRuntime) -> Result<(), Fail> {
+    assert_eq!(rt; found_start(4, 14, 1).ok_or("none")?.0, 0);
+    assert_eq!(rt; found_start(4, 22, 8).ok_or("none")?.0, 1);
+    assert_eq!(rt; found_start(10, 14, 3).ok_or("none")?.0, 2);
+    assert_eq!(rt; found_start(10, 19, 8).ok_or("none")?.0, 6);
+    Ok(())
+}
+
+#[test]
+fn a_search_is_spent_at_its_budget(rt: HostRuntime) {
+    assert!(rt; matches!(find_start(4, &[22; 32], 1), Start::Spent(1)));
+    assert!(rt; matches!(find_start(10, &[14; 32], 2), Start::Spent(2)));
+    let code = striped(4);
+    assert!(rt; matches!(find_repair(&code, None, 1, &[0; 32], 64), Mend::Spent(64)));
+    assert!(rt; matches!(find_repair(&code, None, 1, &[0; 32], 1), Mend::Spent(1)));
+}
+
+#[test]
 fn a_stored_plan_is_tried_first(rt: HostRuntime) -> Result<(), Fail> {
     let (code, stored) = ten_clouds().ok_or("no code")?;
-    let first = repaired_at_ten(&code, Some(&stored), 48).ok_or("none")?;
+    let first = found_repair(&code, Some(&stored), 7, 48, 16).ok_or("none")?;
     assert_eq!(rt; first.0, 0);
     assert_eq!(rt; first.1.coefs, stored.coefs);
     assert_eq!(rt;
@@ -442,7 +391,7 @@ fn a_stored_plan_is_tried_first(rt: HostRuntime) -> Result<(), Fail> {
         [1, 1, 1, 0, 1, 1, 1, 0, 1, 0]
     );
     assert_eq!(rt; first.2.witnesses().plan(7).coefs, stored.coefs);
-    let later = repaired_at_ten(&code, Some(&stored), 42).ok_or("none")?;
+    let later = found_repair(&code, Some(&stored), 7, 42, 16).ok_or("none")?;
     assert_eq!(rt; later.0, 3);
     assert_eq!(rt;
         later.1.coefs[0],
@@ -458,7 +407,7 @@ fn a_stored_plan_is_tried_first(rt: HostRuntime) -> Result<(), Fail> {
 #[test]
 fn without_a_stored_plan_the_first_one_is_drawn(rt: HostRuntime) -> Result<(), Fail> {
     let (code, _) = ten_clouds().ok_or("no code")?;
-    let first = repaired_at_ten(&code, None, 42).ok_or("none")?;
+    let first = found_repair(&code, None, 7, 42, 16).ok_or("none")?;
     assert_eq!(rt; first.0, 0);
     assert_eq!(rt; first.1.choice, [0, 0, 0, 0, 0, 0, 0, 0, 0, 1]);
     assert_eq!(rt;
@@ -467,7 +416,7 @@ fn without_a_stored_plan_the_first_one_is_drawn(rt: HostRuntime) -> Result<(), F
             86, 167, 40, 121, 164, 91, 118, 61, 39, 147, 150, 143, 216, 143, 117, 2
         ]
     );
-    let later = repaired_at_ten(&code, None, 48).ok_or("none")?;
+    let later = found_repair(&code, None, 7, 48, 16).ok_or("none")?;
     assert_eq!(rt; later.0, 2);
     assert_eq!(rt;
         later.1.coefs[0],
