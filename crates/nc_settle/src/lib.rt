@@ -6,8 +6,6 @@ mod deciding;
 mod judging;
 mod looking;
 mod place;
-#[cfg(test)]
-mod tests;
 mod view;
 
 pub use deciding::{Conflict, Misplaced, Top};

@@ -28,35 +28,12 @@ pub fn look<F: Fleet>(alloc: Global, fleet: &mut F, name: &Name) -> Result<View,
     ensures grows { Grows (F.faults fleet.old) (F.faults fleet.new) }
     ensures gets { (c : ℕ) → F.chunk_gets fleet.new c ≡ F.chunk_gets fleet.old c }
 {
-    let first = look_at(alloc, fleet, name, 0)?;
-    let second = look_at(alloc, fleet, name, 1)?;
-    Ok(View::new(first, second))
-}
-
-/// What stands in one slot, by cloud.
-fn look_at<F: Fleet>(
-    alloc: Global,
-    fleet: &mut F,
-    name: &Name,
-    slot: u8,
-) -> Result<Vec<Place>, Memory>
-    requires ready { F.ready }
-    requires wide { 4 ≤ F.clouds fleet.old }
-    requires narrow { F.clouds fleet.old ≤ 10 }
-    requires slot { slot < 2 }
-    ensures told { F.tells → IfOk result (λ places. SeesSlot (F.clouds fleet.old) name.now slot (F.held fleet.old) places.items) }
-    ensures width { IfOk result (λ places. length places.items ≡ F.clouds fleet.old) }
-    ensures metas { IfOk result (λ places. HasMetasIn (F.clouds fleet.old) slot places.items) }
-    ensures failed { IfOk result (λ places. FailuresRoseIn (F.clouds fleet.old) (F.faults fleet.old) (F.faults fleet.new) places.items) }
-    ensures exact { F.counts_exactly → IfOk result (λ places. OnlyFailuresRoseIn (F.faults fleet.old) (F.faults fleet.new) places.items) }
-    ensures clouds { F.clouds fleet.new ≡ F.clouds fleet.old }
-    ensures held { F.held fleet.new ≡ F.held fleet.old }
-    ensures grows { Grows (F.faults fleet.old) (F.faults fleet.new) }
-    ensures gets { (c : ℕ) → F.chunk_gets fleet.new c ≡ F.chunk_gets fleet.old c }
-{
     let width = fleet.width() as u8;
-    let mut asks = asks_for(alloc, width, name, slot)?;
-    ask_all(alloc, fleet, name, slot, &mut asks)
+    let mut zeros = asks_for(alloc, width, name, 0)?;
+    let first = ask_all(alloc, fleet, name, 0, &mut zeros)?;
+    let mut ones = asks_for(alloc, width, name, 1)?;
+    let second = ask_all(alloc, fleet, name, 1, &mut ones)?;
+    Ok(View::new(first, second))
 }
 
 /// What the answers to these asks say, by cloud.
