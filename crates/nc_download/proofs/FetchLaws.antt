@@ -1,6 +1,5 @@
 -- What a view shows is what the clouds hold.
-use Rattle.std.proofs.Common.{◌≡◌, ◌<◌, ◌≤◌, ℕ, List, length, inl, inr, sym, ◌∙◌, subst, arith, Err}
-use Rattle.nc_bytes.specs.Bytes.{AreBytes}
+use Rattle.std.proofs.Common.{◌≡◌, ◌<◌, ◌≤◌, ℕ, List, inl, inr, ◌∙◌, subst, arith, Err}
 use Rattle.nc_code.specs.Codes.{IsMds}
 use Rattle.nc_cloud.specs.Contents.{Contents, Rose, Grows}
 use Rattle.nc_meta.specs.declared.meta.Live.{Live as LiveMeta}
@@ -9,21 +8,21 @@ use Rattle.nc_settle.specs.Views.{Places}
 use Rattle.nc_settle.specs.Looking.{HasWidth, Sees, FailuresRose, OnlyFailuresRose}
 use Rattle.nc_settle.specs.Decisions.{NoneFailed}
 use Rattle.nc_settle.proofs.Seen.{none_held, top_is_highest, undisputed, disputed, nothing_misplaced, least_misplaced_held}
-use Rattle.nc_download.specs.Showing.{Shows, Refuses}
+use Rattle.nc_download.specs.Showing.{ShowsFile, SeesNoFile}
 use Rattle.nc_download.specs.Fetching.{Shown, ComesBack, IsShortOf, Fetches, HasFetchCause, ReadsNoChunk}
-use Rattle.nc_download.specs.Reading.{HoldsEnough, SoundFor, AreTooMany}
+use Rattle.nc_download.specs.Reading.{ComesFrom, AreTooMany}
 use Rattle.nc_download.specs.declared.short.Bad.{Bad}
 use Rattle.nc_download.specs.declared.fetching.FetchFault.{FetchFault}
 use Rattle.nc_download.specs.declared.fetching.FetchFault.TheVariants.{NoFile, Cloud, Short, Conflict, Misplaced, Unsound, Memory}
 
 module _ (n : ℕ) (name : List ℕ) (F : Contents) (v : Places) (wide : 4 ≤ n) (narrow : n ≤ 10) (sees : Sees n name F v) (width : HasWidth n v) where
-  pub shown_held : (live : LiveMeta) → Shows v live → Shown n name F live
+  pub shown_held : (live : LiveMeta) → ShowsFile v live → Shown n name F live
   shown_held live s = record {
     highest = top_is_highest n name F v wide narrow sees width.first s.answered s.cloud (Live live) s.top;
     undisputed = undisputed n name F v wide narrow sees width.first s.answered s.settled s.cloud (Live live) s.top;
   }
 
-  pub refused_held : (fault : FetchFault) → Refuses v fault → Fetches n name F (Err fault)
+  pub refused_held : (fault : FetchFault) → SeesNoFile v fault → Fetches n name F (Err fault)
   refused_held (Cloud c) is = tt
   refused_held NoFile (inl none) = inl (none_held n name F v wide narrow sees width.first none.0.answered none.0.none, nothing_misplaced n name F v wide narrow sees width.first none.0.answered none.1)
   refused_held NoFile (inr gone) = inr (record {
@@ -42,7 +41,7 @@ module _ (n : ℕ) (v : Places) (width : HasWidth n v) (exact : Type 0) (before 
   pub clean : NoneFailed v → exact → (c : ℕ) → c < n → now c ≡ before c
   clean none told c l = (only told).each c (λ slot low e. none c (omega (arith, width.first)) (record { slot = slot; in_pair = low; failed = e }))
 
-  pub refused_cause : (fault : FetchFault) → Refuses v fault → HasFetchCause exact n before now fault
+  pub refused_cause : (fault : FetchFault) → SeesNoFile v fault → HasFetchCause exact n before now fault
   refused_cause (Cloud c) is =
       let l : c < n = omega (arith, width.first, is.in_width) in (
         rose.each c is.failed.slot l is.failed.in_pair is.failed.failed,
@@ -58,13 +57,10 @@ module _ (n : ℕ) (v : Places) (width : HasWidth n v) (exact : Type 0) (before 
 
 -- where nothing was read, no chunk was
 pub nothing_read : (before now : ℕ → ℕ) (fault : FetchFault) → ((c : ℕ) → now c ≡ before c) → ReadsNoChunk before now fault
-nothing_read before now NoFile same = same
-nothing_read before now (Conflict g a b) same = same
-nothing_read before now (Misplaced d a b) same = same
-nothing_read before now (Unsound a b) same = same
 nothing_read before now (Cloud c) same = tt
 nothing_read before now (Short bads) same = tt
 nothing_read before now Memory same = tt
+nothing_read before now other same = same
 
 -- counts that grew and then rose have risen
 pub rose_more : (a b c : ℕ) → a ≤ b → Rose b c → Rose a c
@@ -79,13 +75,12 @@ later_cause n exact before mid now c grows clean is =
 
 -- what is read after a look is what was held before it
 module _ (n m : ℕ) (name : List ℕ) (F G : Contents) (live : LiveMeta) (wide : m ≡ n) (same : G ≡ F) (shown : Shown n name F live) (mds : IsMds live.code) where
-  pub comes_back : (file : List ℕ) → HoldsEnough m name live G → ((v : List ℕ) → AreBytes v → length v ≡ live.len → SoundFor m name live v G → file ≡ v) → ComesBack n name F file
-  comes_back file enough is = record {
+  pub comes_back : (file : List ℕ) → ComesFrom m name live G file → ComesBack n name F file
+  comes_back file comes = record {
     meta = live;
     shown = shown;
     mds = mds;
-    enough = subst (λ (k : ℕ). HoldsEnough k name live F) wide (subst (λ (H : Contents). HoldsEnough m name live H) same enough);
-    is_file = λ v bytes len sound. is v bytes len (subst (λ (H : Contents). SoundFor m name live v H) (sym same) (subst (λ (k : ℕ). SoundFor k name live v F) (sym wide) sound));
+    comes = subst (λ (k : ℕ). ComesFrom k name live F file) wide (subst (λ (H : Contents). ComesFrom m name live H file) same comes);
   }
 
   pub short_of : (bads : List Bad) → AreTooMany m name live G bads → IsShortOf n name F bads

@@ -14,7 +14,7 @@ use Rattle.nc_download.specs.Fetching.{Shown, Fetches}
 use Rattle.nc_download.specs.Giving.{IsHeld, GivesFile}
 use Rattle.nc_download.specs.declared.fetching.FetchFault.{FetchFault}
 use Rattle.nc_download.specs.declared.fetching.FetchFault.TheVariants.{NoFile, Cloud, Short, Conflict, Misplaced, Unsound, Memory}
-use Rattle.nc_download.proofs.ReadLaws.{few_bad}
+use Rattle.nc_download.proofs.ReadLaws.{few_bad, is_sound}
 
 abbrev live_or : LiveMeta → Meta → LiveMeta
 live_or d (Live m) = m
@@ -54,7 +54,7 @@ module _ (n : ℕ) (name : List ℕ) (m : LiveMeta) (v : List ℕ) (F : Contents
   pub gives : (result : Result (List ℕ) FetchFault) → Fetches n name F result → GivesFile v result
   gives (Ok file) back =
       let same : back.meta ≡ m = shown_is back.meta back.shown in
-      back.is_file v is.bytes (is.long ∙ sym (ap (λ (k : LiveMeta). k.len) same)) (subst (λ (k : LiveMeta). SoundFor n name k v F) (sym same) is.sound)
+      is_sound n name back.meta F file v back.comes is.bytes (is.long ∙ sym (ap (λ (k : LiveMeta). k.len) same)) (subst (λ (k : LiveMeta). SoundFor n name k v F) (sym same) is.sound)
   gives (Err (Cloud c)) told = tt
   gives (Err Memory) told = tt
   gives (Err NoFile) (inl none) = some_cloud (λ d l holds. none.0.none d (Live m) l holds)

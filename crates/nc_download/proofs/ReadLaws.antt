@@ -1,6 +1,6 @@
 -- What the sorted clouds give.
-use Rattle.std.proofs.Common.{◌≡◌, ◌<◌, ◌≤◌, ◌+◌, ℕ, Option, None, Some, List, [], ◌∷◌, map, length, get_or, refl, sym, ap, ◌∙◌, subst, arith, inl, inr, ◌⊎◌, All, AllPairs}
-use Rattle.std.proofs.lemmas.Bool.{cases_eq}
+use Rattle.std.proofs.Common.{◌≡◌, ◌≢◌, ◌<◌, ◌≤◌, ◌+◌, ℕ, zero, suc, Option, None, Some, List, [], ◌∷◌, map, length, get_or, refl, sym, ap, ◌∙◌, subst, arith, inl, inr, ◌⊎◌, All, AllPairs}
+use Rattle.std.proofs.lemmas.Bool.{cases_eq, cases_lt}
 use Rattle.std.proofs.lemmas.List.{length-map, get_or-map}
 use Rattle.std.proofs.lemmas.List.Elements.{All-map}
 use Rattle.sha2.specs.Sha256.{sha256}
@@ -23,8 +23,9 @@ use Rattle.nc_download.specs.declared.short.How.TheVariants.{Missing, Broken, Ma
 use Rattle.nc_download.specs.declared.short.Why.{Why}
 use Rattle.nc_download.specs.declared.short.Why.TheVariants.{Failed, Row}
 use Rattle.nc_download.specs.Chunks.{wanted_of, ChunkIs, HoldsPayload}
-use Rattle.nc_download.specs.Clouds.{AreGoodRows, CauseOf, IsGoodCloud, IsGoodRow}
-use Rattle.nc_download.specs.Reading.{chunk_of, AllButTwoAreRight, AreTooMany, HoldsEnough, IsRightCloud, SoundFor}
+use Rattle.nc_download.specs.Clouds.{held_at, AreGoodRows, CauseOf, IsGoodCloud, IsGoodRow}
+use Rattle.nc_download.specs.Reading.{chunk_of, AllButTwoAreRight, AreFirstGood, AreTooMany, ComesFrom, HoldsChunksOf, IsRightCloud, SoundFor}
+use Rattle.nc_bytes.specs.Bytes.{AreBytes}
 use Rattle.nc_download.specs.Sorting.{AreInOrder, AreSorted}
 
 -- what is whole and right there has no other payload
@@ -32,6 +33,49 @@ only_right : (w : Wanted) (held : Option (List ℕ)) (payload right : List ℕ) 
     → ((bytes : List ℕ) → held ≡ Some bytes → Whole bytes → Sealed bytes w.cloud w.width (key_text w.key) right) → payload ≡ right
 only_right w (Some bytes) payload right holds sound = (same_parts bytes _ _ _ _ _ _ _ _ holds (sound bytes refl (whole_of bytes _ _ _ _ holds))).payload
 only_right w None payload right holds sound = absurd holds
+
+-- what is held has one payload
+same_payload : (w : Wanted) (held : Option (List ℕ)) (p q : List ℕ) → HoldsPayload w held p → HoldsPayload w held q → p ≡ q
+same_payload w (Some bytes) p q first second = (same_parts bytes _ _ _ _ _ _ _ _ first second).payload
+same_payload w None p q first second = absurd first
+
+-- a chunk that has the length and the digest that are wanted isn't bad
+not_bad : (w : Wanted) (held : Option (List ℕ)) (right : List ℕ) → HoldsPayload w held right → length right ≡ w.size → sha256 right ≡ w.mark → (how : How) → ChunkIs w held how → ⊥
+not_bad w held right holds long marked Missing is = absurd (subst (λ h. HoldsPayload w h right) is holds)
+not_bad w held right holds long marked Broken is = is.no_payload right holds long
+not_bad w held right holds long marked Marked is = is.other (ap sha256 (same_payload w held _ _ is.holds holds) ∙ marked)
+
+-- a good chunk of some payload
+record HasGoodRow (n : ℕ) (name : List ℕ) (m : Live) (F : Contents) (c r : ℕ) : Type 0 where
+  payload : List ℕ
+  good : IsGoodRow n name m F c r payload
+
+module _ (n : ℕ) (name : List ℕ) (m : Live) (F : Contents) (c : ℕ) (is : IsGoodCloud n name m F c) where
+  good_row : (r : ℕ) → r < 2 → HasGoodRow n name m F c r
+  good_row zero low = record { payload = is.zero; good = is.rows.first }
+  good_row (suc zero) low = record { payload = is.one; good = is.rows.second }
+  good_row (suc (suc r)) low = absurd (omega arith)
+
+  -- a good cloud has no cause
+  pub good_has_no_cause : (why : Why) → CauseOf n name m F c why → ⊥
+  good_has_no_cause Failed caused = caused
+  good_has_no_cause (Row r how) caused =
+      let row = good_row r caused.pair in
+      not_bad (wanted_of n name m r c) (held_at n name m F c r) row.payload row.good.holds row.good.long row.good.marked how caused.here
+
+  -- where the places are sound for a file, it holds its chunks
+  sound_holds : (v : List ℕ) → SoundFor n name m v F → c < n → HoldsChunksOf n name m v F c
+  sound_holds v sound low = record {
+    row = λ r pair.
+        let row = good_row r pair in
+        subst (HoldsPayload (wanted_of n name m r c) (held_at n name m F c r))
+        (only_right (wanted_of n name m r c) (held_at n name m F c r) row.payload (chunk_of n m v r c) row.good.holds (sound.places c r low pair).whole) row.good.holds;
+  }
+
+-- so a file that comes from good clouds is the one that the places are sound for
+pub is_sound : (n : ℕ) (name : List ℕ) (m : Live) (F : Contents) (file v : List ℕ) → ComesFrom n name m F file → AreBytes v → length v ≡ m.len → SoundFor n name m v F → file ≡ v
+is_sound n name m F file v comes bytes long sound =
+    comes.is_file v bytes long (λ k d l. sound_holds n name m F (get_or comes.clouds k d) (comes.first.good k d l) v sound (comes.first.in_width k d l))
 
 -- all clouds are sorted by what is held
 pub record AreAllSorted (n : ℕ) (name : List ℕ) (m : Live) (F : Contents) (pieces : List Piece) (bads : List Bad) : Type 0 where
@@ -77,47 +121,51 @@ module _ (n : ℕ) (name : List ℕ) (m : Live) (F : Contents) (pieces : List Pi
       let less : (get_or pieces i none).cloud < (get_or pieces j none).cloud = all.order.ascending i j none l high in
       omega arith
 
-  pub enough : 2 ≤ n → n ≤ length pieces + 2 → HoldsEnough n name m F
-  enough wide served = record {
-    clouds = map cloud_of pieces;
+  none_of_clouds : (c : ℕ) → All (λ a. a ≢ c) (map cloud_of pieces) → All (λ p. p.cloud ≢ c) pieces
+  none_of_clouds c others k d l same =
+      let within : k < length (map cloud_of pieces) = omega (arith, length-map pieces cloud_of) in
+      others k (cloud_of d) within (get_or-map cloud_of pieces k d (cloud_of d) l ∙ same)
+
+  pub first_good : 2 ≤ n → n ≤ length pieces + 2 → AreFirstGood n name m F (map cloud_of pieces)
+  first_good wide served = record {
     count = omega (arith, length-map pieces cloud_of, all.order.count);
     ascending = ascending;
     in_width = All-map (λ c. c < n) cloud_of pieces all.order.below;
     good = All-map (IsGoodCloud n name m F) cloud_of pieces (λ k d l. record { zero = (get_or pieces k d).zero; one = (get_or pieces k d).one; rows = all.sorted.good k d l });
+    others = λ c good others.
+        All-map (λ a. a < c) cloud_of pieces (elim (cases_lt c n) [
+          | inl low ↦ (all.order.passed c low (none_of_clouds c others) (λ k d l same. good_has_no_cause n name m F c good (get_or bads k d).why (subst (λ (b : ℕ). CauseOf n name m F b (get_or bads k d).why) same (all.sorted.caused k d l)))).above
+          | inr high ↦ λ k d l. omega (arith, all.order.below k d l, high)
+        ]);
   }
 
-  module _ (v : List ℕ) (sound : SoundFor n name m v F) where
-    right : (r c : ℕ) (payload : List ℕ) → c < n → r < 2 → IsGoodRow n name m F c r payload → payload ≡ chunk_of n m v r c
-    right r c payload l low good = only_right (wanted_of n name m r c) (F c (wanted_of n name m r c).key) payload (chunk_of n m v r c) good.holds (sound.places c r l low).whole
-
-    pub pieces_of : m.code.width ≡ n → All (IsPieceOf m.code v) pieces
-    pieces_of width k d l =
-        let p : Piece = get_or pieces k d in
-        let good : AreGoodRows n name m F p.cloud p.zero p.one = all.sorted.good k d l in
-        let in_width : p.cloud < n = all.order.below k d l in
-        record {
-          zero = right 0 p.cloud p.zero in_width (omega arith) good.first ∙ ap (combination (code_row m.code p.cloud 0) v) (sym width);
-          one = right 1 p.cloud p.one in_width (omega arith) good.second ∙ ap (combination (code_row m.code p.cloud 1) v) (sym width);
-        }
-
--- what is held has one payload
-same_payload : (w : Wanted) (held : Option (List ℕ)) (p q : List ℕ) → HoldsPayload w held p → HoldsPayload w held q → p ≡ q
-same_payload w (Some bytes) p q first second = (same_parts bytes _ _ _ _ _ _ _ _ first second).payload
-same_payload w None p q first second = absurd first
-
--- a chunk that has the length and the digest that are wanted isn't bad
-not_bad : (w : Wanted) (held : Option (List ℕ)) (right : List ℕ) → HoldsPayload w held right → length right ≡ w.size → sha256 right ≡ w.mark → (how : How) → ChunkIs w held how → ⊥
-not_bad w held right holds long marked Missing is = absurd (subst (λ h. HoldsPayload w h right) is holds)
-not_bad w held right holds long marked Broken is = is.no_payload right holds long
-not_bad w held right holds long marked Marked is = is.other (ap sha256 (same_payload w held _ _ is.holds holds) ∙ marked)
+  pub pieces_of : (v : List ℕ) → m.code.width ≡ n → All (HoldsChunksOf n name m v F) (map cloud_of pieces) → All (IsPieceOf m.code v) pieces
+  pieces_of v width holds k d l =
+      let p : Piece = get_or pieces k d in
+      let good : AreGoodRows n name m F p.cloud p.zero p.one = all.sorted.good k d l in
+      let within : k < length (map cloud_of pieces) = omega (arith, length-map pieces cloud_of) in
+      let same : get_or (map cloud_of pieces) k p.cloud ≡ p.cloud = get_or-map cloud_of pieces k d p.cloud l in
+      let chunks : HoldsChunksOf n name m v F p.cloud = subst (HoldsChunksOf n name m v F) same (holds k p.cloud within) in
+      record {
+        zero = same_payload (wanted_of n name m 0 p.cloud) _ _ _ good.first.holds (chunks.row 0 (omega arith)) ∙ ap (combination (code_row m.code p.cloud 0) v) (sym width);
+        one = same_payload (wanted_of n name m 1 p.cloud) _ _ _ good.second.holds (chunks.row 1 (omega arith)) ∙ ap (combination (code_row m.code p.cloud 1) v) (sym width);
+      }
 
 module _ (n : ℕ) (name : List ℕ) (m : Live) (v : List ℕ) (F : Contents) (long : length v ≡ m.len) where
-  -- a right cloud has no cause
-  right_is_good : (c : ℕ) → IsRightCloud n name m v F c → (why : Why) → CauseOf n name m F c why → ⊥
-  right_is_good c right Failed caused = caused
-  right_is_good c right (Row r how) caused =
-      let size : length (chunk_of n m v r c) ≡ chunk_size m.len n = length-combination (code_row m.code c r) v n ∙ ap (λ k. chunk_size k n) long in
-      not_bad (wanted_of n name m r c) (F c (wanted_of n name m r c).key) (chunk_of n m v r c) (right.holds r caused.pair) size (right.marked r caused.pair) how caused.here
+  -- a right cloud is good
+  right_row : (c r : ℕ) → r < 2 → IsRightCloud n name m v F c → IsGoodRow n name m F c r (chunk_of n m v r c)
+  right_row c r pair right = record {
+    holds = right.holds.row r pair;
+    long = length-combination (code_row m.code c r) v n ∙ ap (λ k. chunk_size k n) long;
+    marked = right.marked r pair;
+  }
+
+  right_is_good : (c : ℕ) → IsRightCloud n name m v F c → IsGoodCloud n name m F c
+  right_is_good c right = record {
+    zero = chunk_of n m v 0 c;
+    one = chunk_of n m v 1 c;
+    rows = record { first = right_row c 0 (omega arith) right; second = right_row c 1 (omega arith) right };
+  }
 
   -- so where all but two are right, three can't be bad
   module _ (bads : List Bad) (all : AllButTwoAreRight n name m v F) (many : AreTooMany n name m F bads) (d : Bad) where
@@ -129,7 +177,7 @@ module _ (n : ℕ) (name : List ℕ) (m : Live) (v : List ℕ) (F : Contents) (l
       | inl same ↦ inl same
       | inr other ↦ elim (cases_eq (cloud k) all.second) [
         | inl same ↦ inr same
-        | inr too ↦ absurd (right_is_good (cloud k) (all.right (cloud k) (many.in_width k d l) other too) (get_or bads k d).why (many.caused k d l))
+        | inr too ↦ absurd (good_has_no_cause n name m F (cloud k) (right_is_good (cloud k) (all.right (cloud k) (many.in_width k d l) other too)) (get_or bads k d).why (many.caused k d l))
       ]
     ]
 

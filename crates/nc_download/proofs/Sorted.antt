@@ -1,9 +1,9 @@
 -- The clouds are sorted one after the other.
-use Rattle.std.proofs.Common.{◌≡◌, ◌≢◌, ◌<◌, ◌+◌, ℕ, inl, inr, List, [], ◌∷◌, ◌++◌, map, length, get_or, drop, remove, true, refl, sym, ap, ◌∙◌, subst, arith, All, length-append, length-drop}
+use Rattle.std.proofs.Common.{◌≡◌, ◌≢◌, ◌<◌, ◌≤◌, ◌+◌, ℕ, inl, inr, List, [], ◌∷◌, ◌++◌, map, length, get_or, drop, remove, true, refl, sym, ap, ◌∙◌, subst, arith, All, length-append, length-drop}
 use Rattle.std.proofs.lemmas.Grind.{common_steps}
 use Rattle.std.proofs.lemmas.Bool.{cases_lt}
 use Rattle.std.proofs.lemmas.List.{drop-drop}
-use Rattle.std.proofs.lemmas.List.Elements.{All-push}
+use Rattle.std.proofs.lemmas.List.Elements.{All-push, All-contains, Contains-append_left, Contains-get_or, Contains-push}
 use Rattle.std.proofs.lemmas.List.Quantifiers.{all_pairs_push}
 use Rattle.nc_cloud.specs.declared.fleet.Ask.{Ask}
 use Rattle.nc_cloud.specs.Contents.{Contents}
@@ -12,6 +12,7 @@ use Rattle.nc_cloud.specs.Rounds.{row}
 use Rattle.nc_cloud.proofs.Rounds.{row_length, answer_at}
 use Rattle.nc_meta.specs.declared.meta.Live.{Live}
 use Rattle.nc_mix.specs.declared.pieces.Piece.{Piece}
+use Rattle.nc_mix.specs.Decoding.{IsBefore, IsLong}
 use Rattle.nc_download.specs.declared.short.Bad.{Bad}
 use Rattle.nc_download.specs.declared.short.Why.{Why}
 use Rattle.nc_download.specs.Chunks.{chunk_ask, frame_len, wanted_of}
@@ -19,19 +20,64 @@ use Rattle.nc_download.specs.Clouds.{AreGoodRows, CauseOf, IsGoodCloud}
 use Rattle.nc_cloud.specs.Deciding.{IsSeen}
 use Rattle.nc_download.specs.Sorting.{AreInOrder, AreSorted}
 
--- a bad cloud more
-pub bad_in_order : (n size c : ℕ) (pieces : List Piece) (bads : List Bad) (why : Why) → AreInOrder n size c pieces bads → AreInOrder n size (c + 1) pieces (bads ++ record { cloud = c; why = why } ∷ [])
-bad_in_order n size c pieces bads why order =
-    let long : length (bads ++ record { cloud = c; why = why } ∷ []) ≡ length bads + 1 = length-append bads (record { cloud = c; why = why } ∷ []) in
-    record {
-      ascending = order.ascending;
-      below = λ k d l. omega (arith, order.below k d l);
-      long = order.long;
-      bads_ascending = all_pairs_push (λ (a b : Bad). a.cloud < b.cloud) bads _ order.bads_ascending (λ k d l. order.bads_below k d l);
-      bads_below = All-push (λ (b : Bad). b.cloud < c + 1) bads _ (λ k d l. omega (arith, order.bads_below k d l)) (omega arith);
-      bads_few = omega (arith, order.bads_few);
-      count = omega (arith, order.count, order.bads_few);
-    }
+-- what holds of all of a longer list holds of its beginning
+front : {A : Type 0} (P : A → Type 0) (xs ys : List A) → All P (xs ++ ys) → All P xs
+front P xs ys all k d l = All-contains P (xs ++ ys) (get_or xs k d) all (Contains-append_left xs ys (get_or xs k d) (Contains-get_or xs k d l))
+
+-- the clouds are in order up to c, and one more is judged
+module _ (n size c : ℕ) (pieces : List Piece) (bads : List Bad) (order : AreInOrder n size c pieces bads) where
+  -- it is bad
+  pub bad_in_order : (why : Why) → AreInOrder n size (c + 1) pieces (bads ++ record { cloud = c; why = why } ∷ [])
+  bad_in_order why =
+      let bad : Bad = record { cloud = c; why = why } in
+      let long : length (bads ++ bad ∷ []) ≡ length bads + 1 = length-append bads (bad ∷ []) in
+      record {
+        ascending = order.ascending;
+        below = λ k d l. omega (arith, order.below k d l);
+        long = order.long;
+        bads_ascending = all_pairs_push (λ (a b : Bad). a.cloud < b.cloud) bads _ order.bads_ascending (λ k d l. order.bads_below k d l);
+        bads_below = All-push (λ (b : Bad). b.cloud < c + 1) bads _ (λ k d l. omega (arith, order.bads_below k d l)) (omega arith);
+        bads_few = omega (arith, order.bads_few);
+        count = omega (arith, order.count, order.bads_few);
+        passed = λ k l no_piece not_bad. elim (cases_lt k c) [
+          | inl low ↦ order.passed k low no_piece (front (λ (b : Bad). b.cloud ≢ k) bads (bad ∷ []) not_bad)
+          | inr high ↦ let e : c ≡ k = omega (arith, l, high) in absurd (All-contains (λ (b : Bad). b.cloud ≢ k) (bads ++ bad ∷ []) bad not_bad (Contains-push bads bad) e)
+        ];
+      }
+
+  -- it is good, and serves
+  pub good_in_order : (piece : Piece) → piece.cloud ≡ c → IsLong size piece → length pieces + 2 < n → AreInOrder n size (c + 1) (pieces ++ piece ∷ []) bads
+  good_in_order piece here is_long wanted =
+      let long : length (pieces ++ piece ∷ []) ≡ length pieces + 1 = length-append pieces (piece ∷ []) in
+      record {
+        ascending = all_pairs_push IsBefore pieces piece order.ascending (λ k d l. omega (arith, order.below k d l, here));
+        below = All-push (λ (p : Piece). p.cloud < c + 1) pieces piece (λ k d l. omega (arith, order.below k d l)) (omega (arith, here));
+        long = All-push (IsLong size) pieces piece order.long is_long;
+        bads_ascending = order.bads_ascending;
+        bads_below = λ k d l. omega (arith, order.bads_below k d l);
+        bads_few = omega (arith, order.bads_few);
+        count = omega (arith, order.count, order.bads_few);
+        passed = λ k l no_piece not_bad. elim (cases_lt k c) [
+          | inl low ↦ absurd (omega (arith, wanted, (order.passed k low (front (λ (p : Piece). p.cloud ≢ k) pieces (piece ∷ []) no_piece) not_bad).served))
+          | inr high ↦ let e : piece.cloud ≡ k = omega (arith, l, high, here) in absurd (All-contains (λ (p : Piece). p.cloud ≢ k) (pieces ++ piece ∷ []) piece no_piece (Contains-push pieces piece) e)
+        ];
+      }
+
+  -- it is good, and isn't needed
+  pub spare_in_order : n ≤ length pieces + 2 → AreInOrder n size (c + 1) pieces bads
+  spare_in_order served = record {
+    ascending = order.ascending;
+    below = λ k d l. omega (arith, order.below k d l);
+    long = order.long;
+    bads_ascending = order.bads_ascending;
+    bads_below = λ k d l. omega (arith, order.bads_below k d l);
+    bads_few = omega (arith, order.bads_few);
+    count = omega (arith, order.count, order.bads_few);
+    passed = λ k l no_piece not_bad. elim (cases_lt k c) [
+      | inl low ↦ order.passed k low no_piece not_bad
+      | inr high ↦ record { served = served; above = λ i d within. omega (arith, order.below i d within, l, high) }
+    ];
+  }
 
 module _ (n : ℕ) (name : List ℕ) (m : Live) (F : Contents) (c : ℕ) (pieces : List Piece) (bads : List Bad) (sorted : AreSorted n name m F c pieces bads) where
   -- the others, where the next cloud is good

@@ -54,9 +54,10 @@ ChunkIs w held Missing = held ≡ None
 ChunkIs w held Broken = IsBrokenChunk w held
 ChunkIs w held Marked = IsMarkedChunk w held
 
-abbrev pub IsVerdict : Wanted → Option (List ℕ) → Result (Bor (List ℕ)) How → Type 0
-IsVerdict w held (Ok payload) = IsGoodChunk w held payload.now
-IsVerdict w held (Err how) = ChunkIs w held how
+-- a good chunk's payload, or why what is held isn't good
+abbrev pub IsJudged : Wanted → Option (List ℕ) → Result (Bor (List ℕ)) How → Type 0
+IsJudged w held (Ok payload) = IsGoodChunk w held payload.now
+IsJudged w held (Err how) = ChunkIs w held how
 
 -- an ask for it
 abbrev pub ask_of : Wanted → ℕ × Key × ℕ

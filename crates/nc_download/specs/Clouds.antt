@@ -42,9 +42,10 @@ abbrev pub CauseOf : ℕ → List ℕ → Live → Contents → ℕ → Why → 
 CauseOf n name m F c Failed = ⊥
 CauseOf n name m F c (Row r how) = IsFirstBad n name m F c r how
 
-abbrev pub IsCloudVerdict : ℕ → List ℕ → Live → Contents → ℕ → Result Pair Why → Type 0
-IsCloudVerdict n name m F c (Ok pair) = AreGoodRows n name m F c pair.zero.now pair.one.now
-IsCloudVerdict n name m F c (Err why) = CauseOf n name m F c why
+-- both payloads of a good cloud, or why it isn't good
+abbrev pub IsCloudJudged : ℕ → List ℕ → Live → Contents → ℕ → Result Pair Why → Type 0
+IsCloudJudged n name m F c (Ok pair) = AreGoodRows n name m F c pair.zero.now pair.one.now
+IsCloudJudged n name m F c (Err why) = CauseOf n name m F c why
 
 -- both payloads have so many bytes
 pub record IsPair (size : ℕ) (pair : Pair) : Type 0 where

@@ -1,14 +1,13 @@
 -- Which file is shown, and what a fetch answers.
-use Rattle.std.specs.Prelude.{ℕ, ◌≡◌, ◌⊎◌, ◌<◌, List, length, Ok, Err}
+use Rattle.std.specs.Prelude.{ℕ, ◌≡◌, ◌⊎◌, ◌<◌, List, Ok, Err}
 use Rattle.std.specs.declared.result.Result.{Result}
-use Rattle.nc_bytes.specs.Bytes.{AreBytes}
 use Rattle.nc_code.specs.Codes.{IsMds}
 use Rattle.nc_cloud.specs.Contents.{Contents, Rose}
 use Rattle.nc_mds.specs.Verdicts.{IsFirstPair}
 use Rattle.nc_meta.specs.declared.meta.Live.{Live as LiveMeta}
 use Rattle.nc_meta.specs.declared.meta.Meta.TheVariants.{Live, Gone}
 use Rattle.nc_settle.specs.Holding.{NoneSealed, NothingMisplaced, LeastMisplaced, IsHighest, Undisputed, IsDisputed}
-use Rattle.nc_download.specs.Reading.{SoundFor, HoldsEnough, AreTooMany}
+use Rattle.nc_download.specs.Reading.{ComesFrom, AreTooMany}
 use Rattle.nc_download.specs.declared.short.Bad.{Bad}
 use Rattle.nc_download.specs.declared.fetching.FetchFault.{FetchFault}
 use Rattle.nc_download.specs.declared.fetching.FetchFault.TheVariants as fault
@@ -24,13 +23,12 @@ pub record IsDeleted (n : ℕ) (name : List ℕ) (F : Contents) : Type 0 where
   pub highest : IsHighest n name F (Gone generation)
   pub undisputed : Undisputed n name F (Gone generation)
 
--- the file comes back: its code is MDS, enough clouds are good, and it is the one that they were made of
+-- the file that is shown comes back: its code is MDS, and it comes from the first good clouds
 pub record ComesBack (n : ℕ) (name : List ℕ) (F : Contents) (file : List ℕ) : Type 0 where
   pub meta : LiveMeta
   pub shown : Shown n name F meta
   pub mds : IsMds meta.code
-  pub enough : HoldsEnough n name meta F
-  pub is_file : (v : List ℕ) → AreBytes v → length v ≡ meta.len → SoundFor n name meta v F → file ≡ v
+  pub comes : ComesFrom n name meta F file
 
 -- the code of the file that is shown isn't MDS, and a, b is the least pair that shows it
 pub record IsUnsound (n : ℕ) (name : List ℕ) (F : Contents) (a b : ℕ) : Type 0 where
@@ -62,18 +60,11 @@ Fetches n name F (Err fault.Memory) = Unit {0}
 abbrev pub HasFetchCause : Type 0 → ℕ → (ℕ → ℕ) → (ℕ → ℕ) → FetchFault → Type 0
 HasFetchCause exact n before now (fault.Cloud c) = Rose (before c) (now c) × (exact → (d : ℕ) → d < c → d < n → now d ≡ before d)
 HasFetchCause exact n before now fault.Memory = Unit {0}
-HasFetchCause exact n before now fault.NoFile = exact → (c : ℕ) → c < n → now c ≡ before c
-HasFetchCause exact n before now (fault.Short bads) = exact → (c : ℕ) → c < n → now c ≡ before c
-HasFetchCause exact n before now (fault.Conflict g a b) = exact → (c : ℕ) → c < n → now c ≡ before c
-HasFetchCause exact n before now (fault.Misplaced d a b) = exact → (c : ℕ) → c < n → now c ≡ before c
-HasFetchCause exact n before now (fault.Unsound a b) = exact → (c : ℕ) → c < n → now c ≡ before c
+HasFetchCause exact n before now other = exact → (c : ℕ) → c < n → now c ≡ before c
 
 -- A fault that the metadata shows comes before any chunk is read: no cloud's count of given chunks rose.
 abbrev pub ReadsNoChunk : (ℕ → ℕ) → (ℕ → ℕ) → FetchFault → Type 0
-ReadsNoChunk before now fault.NoFile = (c : ℕ) → now c ≡ before c
-ReadsNoChunk before now (fault.Conflict g a b) = (c : ℕ) → now c ≡ before c
-ReadsNoChunk before now (fault.Misplaced d a b) = (c : ℕ) → now c ≡ before c
-ReadsNoChunk before now (fault.Unsound a b) = (c : ℕ) → now c ≡ before c
 ReadsNoChunk before now (fault.Cloud c) = Unit {0}
 ReadsNoChunk before now (fault.Short bads) = Unit {0}
 ReadsNoChunk before now fault.Memory = Unit {0}
+ReadsNoChunk before now other = (c : ℕ) → now c ≡ before c

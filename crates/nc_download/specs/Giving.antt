@@ -30,8 +30,4 @@ abbrev pub GivesFile : List ℕ → Result (List ℕ) FetchFault → Type 0
 GivesFile v (Ok file) = file ≡ v
 GivesFile v (Err (fault.Cloud c)) = Unit {0}
 GivesFile v (Err fault.Memory) = Unit {0}
-GivesFile v (Err fault.NoFile) = ⊥
-GivesFile v (Err (fault.Short bads)) = ⊥
-GivesFile v (Err (fault.Conflict g a b)) = ⊥
-GivesFile v (Err (fault.Misplaced c a b)) = ⊥
-GivesFile v (Err (fault.Unsound a b)) = ⊥
+GivesFile v (Err other) = ⊥

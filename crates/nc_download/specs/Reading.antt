@@ -1,6 +1,7 @@
 -- What reading a file answers.
 use Rattle.std.specs.Prelude.{ℕ, ◌≡◌, ◌≢◌, ◌<◌, ◌+◌, ◌*◌, Some, List, [], length, slice_index_or, All, AllPairs}
 use Rattle.sha2.specs.Sha256.{sha256}
+use Rattle.nc_bytes.specs.Bytes.{AreBytes}
 use Rattle.nc_name.specs.Keys.{key_text}
 use Rattle.nc_frame.specs.Frames.{Sealed, Whole}
 use Rattle.nc_native.specs.Native.{combination}
@@ -28,9 +29,13 @@ pub record IsSoundPlace (n : ℕ) (name : List ℕ) (m : Live) (v : List ℕ) (F
 pub record SoundFor (n : ℕ) (name : List ℕ) (m : Live) (v : List ℕ) (F : Contents) : Type 0 where
   pub places : (c r : ℕ) → c < n → r < 2 → IsSoundPlace n name m v F r c
 
--- cloud c holds both right chunks of the file v, and its marks are their digests
+-- cloud c holds both chunks of the file v
+pub record HoldsChunksOf (n : ℕ) (name : List ℕ) (m : Live) (v : List ℕ) (F : Contents) (c : ℕ) : Type 0 where
+  pub row : (r : ℕ) → r < 2 → HoldsPayload (wanted_of n name m r c) (held_at n name m F c r) (chunk_of n m v r c)
+
+-- it does, and its marks are their digests
 pub record IsRightCloud (n : ℕ) (name : List ℕ) (m : Live) (v : List ℕ) (F : Contents) (c : ℕ) : Type 0 where
-  pub holds : (r : ℕ) → r < 2 → HoldsPayload (wanted_of n name m r c) (held_at n name m F c r) (chunk_of n m v r c)
+  pub holds : HoldsChunksOf n name m v F c
   pub marked : (r : ℕ) → r < 2 → sha256 (chunk_of n m v r c) ≡ slice_index_or m.marks (2 * c + r) []
 
 -- all clouds of n but two are right, or more
@@ -39,13 +44,21 @@ pub record AllButTwoAreRight (n : ℕ) (name : List ℕ) (m : Live) (v : List �
   pub second : ℕ
   pub right : (c : ℕ) → c < n → c ≢ first → c ≢ second → IsRightCloud n name m v F c
 
--- all clouds of n but two are good, or more
-pub record HoldsEnough (n : ℕ) (name : List ℕ) (m : Live) (F : Contents) : Type 0 where
-  pub clouds : List ℕ
+-- These are the first n - 2 good clouds of n, ascending: every other good cloud comes after them all.
+pub record AreFirstGood (n : ℕ) (name : List ℕ) (m : Live) (F : Contents) (clouds : List ℕ) : Type 0 where
   pub count : length clouds + 2 ≡ n
   pub ascending : AllPairs (λ a b. a < b) clouds
   pub in_width : All (λ c. c < n) clouds
   pub good : All (IsGoodCloud n name m F) clouds
+  pub others : (c : ℕ) → IsGoodCloud n name m F c → All (λ a. a ≢ c) clouds → All (λ a. a < c) clouds
+
+-- The file comes from the first n - 2 good clouds: it has the length that the metadata tells, and is each file of this length of
+-- which those clouds hold the chunks.
+pub record ComesFrom (n : ℕ) (name : List ℕ) (m : Live) (F : Contents) (file : List ℕ) : Type 0 where
+  pub clouds : List ℕ
+  pub first : AreFirstGood n name m F clouds
+  pub long : length file ≡ m.len
+  pub is_file : (v : List ℕ) → AreBytes v → length v ≡ m.len → All (HoldsChunksOf n name m v F) clouds → file ≡ v
 
 -- exactly the bad clouds of n, ascending, each with its cause: three or more, so that fewer than n - 2 are good
 pub record AreTooMany (n : ℕ) (name : List ℕ) (m : Live) (F : Contents) (bads : List Bad) : Type 0 where

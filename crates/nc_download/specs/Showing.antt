@@ -5,10 +5,10 @@ use Rattle.nc_meta.specs.declared.meta.Meta.TheVariants.{Live, Gone}
 use Rattle.nc_settle.specs.Views.{Places}
 use Rattle.nc_settle.specs.Decisions.{NoneFailed, IsLeastFailed, NoneMisplaced, IsLeastMisplaced, SeesNone, IsTop, IsConflict, NoConflict}
 use Rattle.nc_download.specs.declared.fetching.FetchFault.{FetchFault}
-use Rattle.nc_download.specs.declared.fetching.FetchFault.TheVariants.{NoFile, Cloud, Short, Conflict, Misplaced, Unsound, Memory}
+use Rattle.nc_download.specs.declared.fetching.FetchFault.TheVariants.{NoFile, Cloud, Conflict, Misplaced}
 
 -- all clouds answered, and the highest metadata is this
-pub record Shows (v : Places) (live : LiveMeta) : Type 0 where
+pub record ShowsFile (v : Places) (live : LiveMeta) : Type 0 where
   pub answered : NoneFailed v
   pub cloud : ℕ
   pub top : IsTop v cloud (Live live)
@@ -28,21 +28,15 @@ pub record ShowsNone (v : Places) : Type 0 where
   pub none : SeesNone v
 
 -- why a view shows no file
-abbrev pub Refuses : Places → FetchFault → Type 0
-Refuses v (Cloud c) = IsLeastFailed v c
-Refuses v NoFile = (ShowsNone v × NoneMisplaced v) ⊎ ShowsDeleted v
-Refuses v (Misplaced c a b) = ShowsNone v × IsLeastMisplaced v c a b
-Refuses v (Conflict g a b) = NoneFailed v × IsConflict v g a b
-Refuses v (Short bads) = ⊥
-Refuses v (Unsound a b) = ⊥
-Refuses v Memory = ⊥
+abbrev pub SeesNoFile : Places → FetchFault → Type 0
+SeesNoFile v (Cloud c) = IsLeastFailed v c
+SeesNoFile v NoFile = (ShowsNone v × NoneMisplaced v) ⊎ ShowsDeleted v
+SeesNoFile v (Misplaced c a b) = ShowsNone v × IsLeastMisplaced v c a b
+SeesNoFile v (Conflict g a b) = NoneFailed v × IsConflict v g a b
+SeesNoFile v other = ⊥
 
 -- why it shows none where no cloud holds metadata of its own
-abbrev pub RefusesNothing : Places → FetchFault → Type 0
-RefusesNothing v NoFile = NoneMisplaced v
-RefusesNothing v (Misplaced c a b) = IsLeastMisplaced v c a b
-RefusesNothing v (Cloud c) = ⊥
-RefusesNothing v (Conflict g a b) = ⊥
-RefusesNothing v (Short bads) = ⊥
-RefusesNothing v (Unsound a b) = ⊥
-RefusesNothing v Memory = ⊥
+abbrev pub SeesNoMeta : Places → FetchFault → Type 0
+SeesNoMeta v NoFile = NoneMisplaced v
+SeesNoMeta v (Misplaced c a b) = IsLeastMisplaced v c a b
+SeesNoMeta v other = ⊥

@@ -3,7 +3,7 @@ ghost use Rattle.nc_cloud.specs.Contents.{Grows};
 ghost use Rattle.nc_download.specs.Fetching.{Fetches, HasFetchCause, ReadsNoChunk};
 ghost use Rattle.nc_meta.specs.declared.meta.Live.{Live as LiveMeta};
 ghost use Rattle.nc_download.specs.Giving.{GivesFile, IsHeld};
-ghost use Rattle.nc_download.specs.Showing.{Refuses, RefusesNothing, Shows};
+ghost use Rattle.nc_download.specs.Showing.{SeesNoFile, SeesNoMeta, ShowsFile};
 ghost use Rattle.nc_download.specs.declared.fetching.FetchFault.TheVariants.{Memory as NoMemory};
 
 use crate::reading::{ReadFault, read_file};
@@ -15,34 +15,42 @@ use nc_name::{Blob, Memory, Name};
 use nc_settle::{View, look};
 use std::alloc::Global;
 use std::thread::Threads;
+use thiserror::Error;
 
 /// Why there is no file to give.
-#[derive(Debug, Drop)]
+#[derive(Debug, Drop, Error)]
 pub enum FetchFault {
     /// There is no file of this name: no cloud holds metadata of it, or the newest says that it was deleted.
+    #[error("there is no file of this name")]
     NoFile,
     /// This is the least cloud that failed in a look or in a round.
+    #[error("cloud {0} failed")]
     Cloud(u8),
     /// Fewer clouds are good than the file comes back from. These are all that aren't, ascending, each with its first cause.
+    #[error("fewer clouds are good than the file comes back from")]
     Short(ShortList),
     /// Clouds `a` and `b` hold different metadata of the highest generation.
+    #[error("clouds {a} and {b} hold different metadata of generation {generation}")]
     Conflict {
         generation: u64,
         a: u8,
         b: u8,
     },
     /// No cloud holds metadata of its own, and this is the least that holds some of another cloud or width.
+    #[error("cloud {cloud} holds metadata of cloud {said_cloud} of {said_width}")]
     Misplaced {
         cloud: u8,
         said_cloud: u8,
         said_width: u8,
     },
     /// The rows of the file's code without clouds `a` and `b` are dependent: the least such pair.
+    #[error("the file does not come back without clouds {a} and {b}")]
     Unsound {
         a: u8,
         b: u8,
     },
     /// No memory was found.
+    #[error("no memory was found")]
     Memory,
 }
 
@@ -95,8 +103,8 @@ pub fn fetch<R: Threads + Sync, F: Fleet>(
 
 /// The metadata of the file that a view shows.
 fn shown(view: &View) -> Result<Live, FetchFault>
-    ensures shown { IfOk result (Shows view.now) }
-    ensures fault { IfErr result (Refuses view.now) }
+    ensures shown { IfOk result (ShowsFile view.now) }
+    ensures fault { IfErr result (SeesNoFile view.now) }
 {
     if let Some(cloud) = view.failing() {
         return Err(FetchFault::Cloud(cloud));
@@ -119,7 +127,7 @@ fn shown(view: &View) -> Result<Live, FetchFault>
 
 /// Why no file is shown where no cloud holds metadata of its own.
 fn nothing(view: &View) -> FetchFault
-    ensures { RefusesNothing view.now result }
+    ensures { SeesNoMeta view.now result }
 {
     match view.misplaced() {
         Some(misplaced) => FetchFault::Misplaced {

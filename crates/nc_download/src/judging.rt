@@ -1,7 +1,7 @@
 ghost use Rattle.std.specs.Prelude.{◌≡◌, Option, Some, List, ℕ, IfOk, length, true};
 ghost use Rattle.nc_name.specs.Keys.{Slots};
 ghost use Rattle.nc_cloud.specs.Fleet.{Shows};
-ghost use Rattle.nc_download.specs.Chunks.{frame_len, IsVerdict};
+ghost use Rattle.nc_download.specs.Chunks.{frame_len, IsJudged};
 ghost use Rattle.nc_cloud.specs.Deciding.{IsSeen};
 
 use crate::short::How;
@@ -29,7 +29,7 @@ pub struct Wanted {
 pub fn judge<'a>(wanted: &Wanted, answer: &'a Answer) -> Result<&'a [u8], How>
     requires slots { Slots wanted.now.key }
     requires seen { IsSeen answer.now ≡ true }
-    ensures verdict { (held : Option (List ℕ)) → Shows answer.now (frame_len wanted.now) held → IsVerdict wanted.now held result }
+    ensures verdict { (held : Option (List ℕ)) → Shows answer.now (frame_len wanted.now) held → IsJudged wanted.now held result }
     ensures long { IfOk result (λ payload. length payload.now ≡ wanted.now.size) }
 {
     match answer {
@@ -42,7 +42,7 @@ pub fn judge<'a>(wanted: &Wanted, answer: &'a Answer) -> Result<&'a [u8], How>
 /// The payload of the chunk, where these bytes are its frame; else what is wrong.
 fn judge_bytes<'a>(wanted: &Wanted, bytes: &'a [u8]) -> Result<&'a [u8], How>
     requires slots { Slots wanted.now.key }
-    ensures verdict { IsVerdict wanted.now (Some bytes.now) result }
+    ensures verdict { IsJudged wanted.now (Some bytes.now) result }
     ensures long { IfOk result (λ payload. length payload.now ≡ wanted.now.size) }
 {
     let Seen::Payload(payload) = open(wanted.cloud, wanted.width, &wanted.key, bytes) else {

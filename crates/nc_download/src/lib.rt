@@ -13,6 +13,3 @@ pub use fetching::{FetchFault, fetch};
 pub use judging::{Wanted, judge};
 pub use reading::{ReadFault, read_file};
 pub use short::{Bad, How, ShortList, Why};
-
-#[cfg(test)]
-mod tests;

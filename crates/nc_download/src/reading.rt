@@ -1,10 +1,9 @@
 ghost use Rattle.std.specs.Prelude.{◌≡◌, ◌≤◌, ℕ, List, IfErr, IfOk, OnOk, length};
-ghost use Rattle.nc_bytes.specs.Bytes.{AreBytes};
 ghost use Rattle.nc_code.specs.Codes.{IsMds};
 ghost use Rattle.nc_cloud.specs.Contents.{Grows};
 ghost use Rattle.nc_meta.specs.Metas.{IsLive};
 ghost use Rattle.nc_download.specs.declared.reading.ReadFault.TheVariants.{Cloud, Memory as NoMemory};
-ghost use Rattle.nc_download.specs.Reading.{AllButTwoAreRight, HasReadCause, HoldsEnough, IsFaultOf, IsNotShort, IsShort, SoundFor};
+ghost use Rattle.nc_download.specs.Reading.{AllButTwoAreRight, ComesFrom, HasReadCause, IsFaultOf, IsNotShort, IsShort};
 
 use crate::asks::ask_row;
 use crate::short::ShortList;
@@ -15,15 +14,19 @@ use nc_mix::{Open, decode};
 use nc_name::{Blob, Memory, Name};
 use std::alloc::Global;
 use std::thread::Threads;
+use thiserror::Error;
 
 /// Why a file wasn't read.
-#[derive(Debug, Drop)]
+#[derive(Debug, Drop, Error)]
 pub enum ReadFault {
     /// This is the least cloud that failed in a round.
+    #[error("cloud {0} failed")]
     Cloud(u8),
     /// Fewer clouds are good than the file comes back from. These are all that aren't, ascending, each with its first cause.
+    #[error("fewer clouds are good than the file comes back from")]
     Short(ShortList),
     /// No memory was found.
+    #[error("no memory was found")]
     Memory,
 }
 
@@ -63,9 +66,8 @@ pub fn read_file<R: Threads + Sync, F: Fleet>(
     requires mds { IsMds live.now.code }
     requires some_worker { 1 ≤ workers }
     requires few_workers { workers ≤ 16 }
-    ensures file { F.tells → IfOk result (λ file. (v : List ℕ) → AreBytes v → length v ≡ live.now.len → SoundFor (F.clouds fleet.old) name.now live.now v (F.held fleet.old) → file ≡ v) }
+    ensures comes { F.tells → IfOk result (ComesFrom (F.clouds fleet.old) name.now live.now (F.held fleet.old)) }
     ensures length { IfOk result (λ file. length file ≡ live.now.len) }
-    ensures enough { F.tells → OnOk result (HoldsEnough (F.clouds fleet.old) name.now live.now (F.held fleet.old)) }
     ensures short { F.tells → IfErr result (IsShort (F.clouds fleet.old) name.now live.now (F.held fleet.old)) }
     ensures complete { F.tells → (v : List ℕ) → length v ≡ live.now.len → AllButTwoAreRight (F.clouds fleet.old) name.now live.now v (F.held fleet.old) → IfErr result IsNotShort }
     ensures cause { IfErr result (HasReadCause F.counts_exactly (F.faults fleet.old) (F.faults fleet.new)) }

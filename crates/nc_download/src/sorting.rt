@@ -5,7 +5,7 @@ ghost use Rattle.nc_cloud.specs.Rounds.{row};
 ghost use Rattle.nc_meta.specs.Metas.{IsLive};
 ghost use Rattle.nc_native.specs.Native.{chunk_size};
 ghost use Rattle.nc_download.specs.Chunks.{chunk_ask, frame_len, wanted_of};
-ghost use Rattle.nc_download.specs.Clouds.{IsCloudVerdict, IsPair};
+ghost use Rattle.nc_download.specs.Clouds.{IsCloudJudged, IsPair};
 ghost use Rattle.nc_cloud.specs.Deciding.{IsSeen};
 ghost use Rattle.nc_download.specs.Sorting.{AreInOrder, AreSorted};
 
@@ -120,7 +120,7 @@ fn judge_cloud<'a>(
     requires cloud { cloud < width }
     requires zero_seen { IsSeen zero.now ≡ true }
     requires one_seen { IsSeen one.now ≡ true }
-    ensures verdict { (F : Contents) → Shows zero.now (frame_len (wanted_of width name.now live.now 0 cloud)) (F cloud (wanted_of width name.now live.now 0 cloud).key) → Shows one.now (frame_len (wanted_of width name.now live.now 1 cloud)) (F cloud (wanted_of width name.now live.now 1 cloud).key) → IsCloudVerdict width name.now live.now F cloud result }
+    ensures verdict { (F : Contents) → Shows zero.now (frame_len (wanted_of width name.now live.now 0 cloud)) (F cloud (wanted_of width name.now live.now 0 cloud).key) → Shows one.now (frame_len (wanted_of width name.now live.now 1 cloud)) (F cloud (wanted_of width name.now live.now 1 cloud).key) → IsCloudJudged width name.now live.now F cloud result }
     ensures long { IfOk result (IsPair (chunk_size live.now.len width)) }
 {
     let zero = match judge(&wanted(width, name, live, 0, cloud), zero) {

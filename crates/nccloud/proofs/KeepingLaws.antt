@@ -149,7 +149,7 @@ module _ (n : ℕ) (good : GoodParts) (name v : List ℕ) (F G : Contents) (wide
     first = n;
     second = n;
     holds = λ c l a b. holds_meta c l;
-    right = λ c l a b. record { holds = λ r pair. right_at c r l pair; marked = λ r pair. marked_at c r l pair };
+    right = λ c l a b. record { holds = record { row = λ r pair. right_at c r l pair }; marked = λ r pair. marked_at c r l pair };
     sound = record {
       places = λ c r l pair. record {
         whole = λ object there w. subst (λ (h : Option (List ℕ)). HoldsPayload (wanted_of n name (first_meta n good v) r c) h (chunk_of n (first_meta n good v) v r c)) there (right_at c r l pair);

@@ -26,7 +26,7 @@ returns-in-Fails-clause-cause g c = clean _ _ c.in_ok-view.ensures.width _ _ _ c
 pub returns-in-Ok-read_file-clause-fetches : goal.returns-in-Ok-read_file-clause-fetches
 returns-in-Ok-read_file-clause-fetches g c told =
     comes_back _ _ _ _ _ _ c.in_ok-view.ensures.clouds c.in_ok-view.ensures.held (shown_held _ _ _ _ c.requires.wide c.requires.narrow (c.in_ok-view.ensures.told told) c.in_ok-view.ensures.width _ c.in-Ok.ensures.shown)
-    c.in_default.ensures.verdict _ (c.in-Ok-read_file.ensures.enough told) (c.in-Ok-read_file.ensures.file told)
+    c.in_default.ensures.verdict _ (c.in-Ok-read_file.ensures.comes told)
 
 pub returns-in-Ok-read_file-clause-clean : goal.returns-in-Ok-read_file-clause-clean
 returns-in-Ok-read_file-clause-clean g c told d l =
