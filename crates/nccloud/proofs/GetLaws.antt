@@ -6,6 +6,7 @@ use Rattle.nc_download.specs.declared.fetching.FetchFault.{FetchFault}
 use Rattle.nc_download.specs.declared.fetching.FetchFault.TheVariants.{NoFile, Cloud, Short, Conflict, Misplaced, Unsound, Memory}
 use Rattle.nccloud.specs.declared.status.Status.TheVariants.{Vault}
 use Rattle.nccloud.specs.Got.{Gives, NoneRose, ReadsNoChunk}
+use Rattle.nccloud.specs.Run.{IsGot}
 use Rattle.nccloud.specs.Status.{fault_of_fetch}
 
 -- only no memory is left
@@ -27,3 +28,13 @@ refused_unread before now (Unsound a b) same = same
 refused_unread before now (Cloud c) same = same
 refused_unread before now (Short bads) same = same
 refused_unread before now Memory same = same
+
+-- what a fetch is refused with is a fault of get
+pub refused_got : (fault : FetchFault) → IsGot (Vault (fault_of_fetch fault))
+refused_got NoFile = tt
+refused_got (Cloud c) = tt
+refused_got (Short bads) = tt
+refused_got (Conflict g a b) = tt
+refused_got (Misplaced c a b) = tt
+refused_got (Unsound a b) = tt
+refused_got Memory = tt

@@ -1,6 +1,5 @@
 -- What a put leaves is what a get gives.
 use Rattle.std.proofs.Common.{◌≡◌, ◌<◌, ◌≤◌, ◌+◌, ◌*◌, ◌/◌, ◌%◌, ℕ, Option, None, Some, List, [], length, slice_index, slice_index_or, replicate, refl, sym, ap, ◌∙◌, subst, arith, inl, inr, IsSomeAnd}
-use Rattle.std.proofs.lemmas.Grind.{common_steps}
 use Rattle.std.proofs.lemmas.Bool.{cases_eq, cond_below}
 use Rattle.std.proofs.lemmas.List.FromFn.{get_or-map-range_with_len}
 use Rattle.sha2.specs.Sha256.{sha256}
@@ -27,6 +26,7 @@ use Rattle.nc_download.specs.Clouds.{held_at}
 use Rattle.nc_download.specs.Reading.{chunk_of}
 use Rattle.nc_download.specs.Giving.{IsHeld}
 use Rattle.nccloud.specs.FirstMeta.{first_meta, mark_of}
+use Rattle.nccloud.proofs.MetaLemmas.{zero_at}
 use Rattle.nccloud.specs.Refusals.{IsFree}
 use Rattle.nccloud.specs.Store.{Stores}
 
@@ -61,9 +61,6 @@ code_is n good v = refl
 len_is : (n : ℕ) (good : GoodParts) (v : List ℕ) → length v ≡ (first_meta n good v).len
 unfolding first_meta
 len_is n good v = refl
-
-zero_at : (n k : ℕ) → slice_index (replicate n 0) k ≡ 0
-zero_at n k = grind (arith, common_steps)
 
 slot_is : (n : ℕ) (good : GoodParts) (v : List ℕ) (c : ℕ) → slice_index (first_meta n good v).slots c ≡ 0
 unfolding first_meta

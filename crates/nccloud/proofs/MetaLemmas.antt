@@ -37,7 +37,8 @@ row_from f g a (suc k) same = ap₂ (λ x xs. x ∷ xs) (same a (omega arith)) (
 pub row_same : {X : Type 0} (f g : ℕ → X) (n : ℕ) → ((c : ℕ) → c < n → f c ≡ g c) → row f 0 n ≡ row g 0 n
 row_same f g n same = row_from f g 0 n (λ c l. same c (omega arith))
 
-zero_at : (n k : ℕ) → slice_index (replicate n 0) k ≡ 0
+-- what isn't stored is 0
+pub zero_at : (n k : ℕ) → slice_index (replicate n 0) k ≡ 0
 zero_at n k = grind (arith, common_steps)
 
 module _ (chunks marks : List (List ℕ)) (of : AreMarks chunks marks) where

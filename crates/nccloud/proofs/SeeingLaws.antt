@@ -17,18 +17,14 @@ use Rattle.nccloud.specs.declared.status.Fault.{Fault}
 use Rattle.nccloud.specs.declared.status.Fault.TheVariants.{NoFile, Cloud, Short, Conflict, Misplaced, Unsound, Taken, Spent, Memory}
 
 -- what a view is refused for is a fault of put
-pub put_fault : (v : Places) (fault : Fault) → SeenToRefuse v fault → IsPutFault fault
-put_fault v (Cloud c) is = tt
-put_fault v Memory is = tt
-put_fault v Taken is = tt
-put_fault v (Spent tried) is = tt
-put_fault v (Misplaced c a b) is = tt
-put_fault v (Conflict g a b) is = tt
-put_fault v NoFile is = is
-put_fault v (Short bads) is = is
-put_fault v (Unsound a b) is = is
+pub put_fault : (n : ℕ) (s : Setting) (name : List ℕ) (v : Places) (fault : Fault) → SeenToRefuse v fault → IsPutFault n s name fault
+put_fault n s name v (Spent tried) is = absurd is
+put_fault n s name v NoFile is = is
+put_fault n s name v (Short bads) is = is
+put_fault n s name v (Unsound a b) is = is
+put_fault n s name v other is = tt
 
-module _ (n : ℕ) (s : Setting) (name : List ℕ) (F : Contents) (v : Places) (wide : 4 ≤ n) (narrow : n ≤ 10) (sees : Sees n name F v) (width : HasWidth n v) where
+module _ (n : ℕ) (name : List ℕ) (F : Contents) (v : Places) (wide : 4 ≤ n) (narrow : n ≤ 10) (sees : Sees n name F v) (width : HasWidth n v) where
   pub free_held : IsSeenFree v → IsFree n name F
   free_held free = record {
     none = none_held n name F v wide narrow sees width.first free.answered free.none;
@@ -42,16 +38,13 @@ module _ (n : ℕ) (s : Setting) (name : List ℕ) (F : Contents) (v : Places) (
     undisputed = undisputed n name F v wide narrow sees width.first taken.answered taken.settled taken.cloud taken.meta taken.top;
   }
 
-  pub refused_held : (fault : Fault) → SeenToRefuse v fault → PutRefuses n s name F fault
+  pub refused_held : (fault : Fault) → SeenToRefuse v fault → PutRefuses n name F fault
   refused_held (Cloud c) is = tt
   refused_held (Misplaced c a b) is = least_misplaced_held n name F v wide narrow sees width.first is.0 c a b is.1
   refused_held (Conflict g a b) is = (nothing_misplaced n name F v wide narrow sees width.first is.0 is.1, disputed n name F v wide narrow sees width.first is.0 g a b is.2)
   refused_held Taken is = (nothing_misplaced n name F v wide narrow sees width.first is.answered is.nothing_misplaced, taken_held is)
   refused_held (Spent tried) is = absurd is
-  refused_held Memory is = absurd is
-  refused_held NoFile is = absurd is
-  refused_held (Short list) is = absurd is
-  refused_held (Unsound a b) is = absurd is
+  refused_held other is = tt
 
 module _ (n : ℕ) (v : Places) (width : HasWidth n v) (exact : Type 0) (before now : ℕ → ℕ) (rose : FailuresRose n before now v) (only : exact → OnlyFailuresRose before now v) where
   -- where no place failed no count changed
@@ -63,11 +56,8 @@ module _ (n : ℕ) (v : Places) (width : HasWidth n v) (exact : Type 0) (before 
   refused_cause (Misplaced c a b) is = clean is.0
   refused_cause (Conflict g a b) is = clean is.0
   refused_cause Taken is = clean is.answered
-  refused_cause (Spent tried) is = absurd is
-  refused_cause Memory is = absurd is
-  refused_cause NoFile is = absurd is
-  refused_cause (Short list) is = absurd is
-  refused_cause (Unsound a b) is = absurd is
+  refused_cause Memory is = tt
+  refused_cause other is = absurd is
 
 -- what no count changed in leaves the cause of the round after it
 pub later_round : (exact : Type 0) (before mid now : ℕ → ℕ) → Grows before mid → (exact → (c : ℕ) → mid c ≡ before c) → (fault : RoundFault) → HasCause exact mid now fault → HasCause exact before now fault

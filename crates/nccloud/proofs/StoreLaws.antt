@@ -14,7 +14,7 @@ use Rattle.nc_cloud.specs.Images.{Image, Written}
 use Rattle.nc_cloud.specs.Fleet.{writes}
 use Rattle.nc_cloud.specs.Rounds.{row}
 use Rattle.nc_cloud.proofs.Images.{image_in, image_out, written_in, written_out}
-use Rattle.nccloud.specs.Store.{sealed_place, file_place, meta_place, Holds, ChangesOnlyName, Stores, IsPrepared}
+use Rattle.nccloud.specs.Store.{sealed_place, file_place, meta_place, HoldsFrame, ChangesOnlyName, Stores, IsPrepared}
 
 -- a round over one key of each cloud
 module _ (n : ℕ) (key : Key) (payload : ℕ → List ℕ) (ps : List Write) (all : ps ≡ row (λ c. sealed_place n c key (payload c)) 0 n) (F G : Contents) where
@@ -47,7 +47,7 @@ pub only_then : (name : List ℕ) (F G H : Contents) → ChangesOnlyName name F 
 only_then name F G H first second c key other = second c key other ∙ first c key other
 
 -- an object that is a frame holds its payload
-holds_frame : (n : ℕ) (G : Contents) (c : ℕ) (key : Key) (payload : List ℕ) → HasFrame c n (key_text key) payload → G c key ≡ Some (frame c n (key_text key) payload) → Holds n G c key payload
+holds_frame : (n : ℕ) (G : Contents) (c : ℕ) (key : Key) (payload : List ℕ) → HasFrame c n (key_text key) payload → G c key ≡ Some (frame c n (key_text key) payload) → HoldsFrame n G c key payload
 holds_frame n G c key payload fits is = rw is (record { fits = fits; is_frame = refl })
 
 -- all three rounds of put
@@ -67,7 +67,7 @@ module _ (n : ℕ) (good : GoodParts) (name v : List ℕ) (first second metas : 
       written_others n (Meta name 1) (λ k. made.payload) _ made.meta_places H K three c (Chunk name 0 1) (λ e. cc)
       ∙ written_here n (Chunk name 0 1) (chunk 1) _ made.second_places G H two c l
 
-  right : (c r : ℕ) → c < n → r < 2 → Holds n K c (Chunk name 0 r) (chunk r c)
+  right : (c r : ℕ) → c < n → r < 2 → HoldsFrame n K c (Chunk name 0 r) (chunk r c)
   right c zero l low = holds_frame n K c (Chunk name 0 0) (chunk 0 c) (made.chunk_fits c 0 l low) (row_0 c l)
   right c (suc zero) l low = holds_frame n K c (Chunk name 0 1) (chunk 1 c) (made.chunk_fits c 1 l low) (row_1 c l)
   right c (suc (suc r)) l low = absurd (omega arith)

@@ -9,7 +9,7 @@ use Rattle.nccloud.specs.declared.words.Command.TheVariants.{Put, Get}
 use Rattle.nccloud.specs.declared.words.WordFault.{WordFault}
 use Rattle.nccloud.specs.declared.words.WordFault.TheVariants as word
 use Rattle.nccloud.specs.Run.{HasBadName, IsBegun}
-use Rattle.nccloud.specs.Words.{target, Asks, IfPut, put_words, RefusesWords, IsCommandOf}
+use Rattle.nccloud.specs.Words.{target, Asks, IfGet, IfPut, get_words, put_words, RefusesWords, IsCommandOf}
 
 -- words that ask for a command are one
 is_command : (words : List (List ℕ)) (command : Command) → Asks words command → IsCommandOf words (target command)
@@ -40,4 +40,11 @@ pub asked_put : (words : List (List ℕ)) (command : Command) (P : List ℕ → 
 asked_put words (Put name) P asks is text same = subst P (ap (λ (ws : List (List ℕ)). slice_index_or ws 1 []) (sym asks.0 ∙ same)) is
 asked_put words (Get name) P asks is text same =
     let letters : 103 ≡ 112 = ap (λ (ws : List (List ℕ)). slice_index (slice_index_or ws 0 []) 0) (sym asks.0 ∙ same) in
+    absurd (omega (arith, letters))
+
+-- and what holds of that of a get
+pub asked_get : (words : List (List ℕ)) (command : Command) (P : List ℕ → Type 0) → Asks words command → IfGet command P → (text : List ℕ) → words ≡ get_words text → P text
+asked_get words (Get name) P asks is text same = subst P (ap (λ (ws : List (List ℕ)). slice_index_or ws 1 []) (sym asks.0 ∙ same)) is
+asked_get words (Put name) P asks is text same =
+    let letters : 112 ≡ 103 = ap (λ (ws : List (List ℕ)). slice_index (slice_index_or ws 0 []) 0) (sym asks.0 ∙ same) in
     absurd (omega (arith, letters))

@@ -19,26 +19,19 @@ pub record IsTaken (n : ℕ) (name : List ℕ) (F : Contents) : Type 0 where
   pub highest : IsHighest n name F meta
   pub undisputed : Undisputed n name F meta
 
--- by what the clouds hold, and then by what the name draws
-abbrev pub PutRefuses : ℕ → Setting → List ℕ → Contents → Fault → Type 0
-PutRefuses n s name F (fault.Misplaced c a b) = LeastMisplaced n name F c a b
-PutRefuses n s name F (fault.Conflict g a b) = NothingMisplaced n name F × IsDisputed n name F g a b
-PutRefuses n s name F fault.Taken = NothingMisplaced n name F × IsTaken n name F
-PutRefuses n s name F (fault.Spent tried) = (tried ≡ s.budget) × IsFree n name F × HasNoCode n s name
-PutRefuses n s name F (fault.Cloud c) = Unit {0}
-PutRefuses n s name F fault.Memory = Unit {0}
-PutRefuses n s name F fault.NoFile = ⊥
-PutRefuses n s name F (fault.Short list) = ⊥
-PutRefuses n s name F (fault.Unsound a b) = ⊥
+-- What the clouds hold of a name where a put of it is refused for this.
+abbrev pub PutRefuses : ℕ → List ℕ → Contents → Fault → Type 0
+PutRefuses n name F (fault.Misplaced c a b) = LeastMisplaced n name F c a b
+PutRefuses n name F (fault.Conflict g a b) = NothingMisplaced n name F × IsDisputed n name F g a b
+PutRefuses n name F fault.Taken = NothingMisplaced n name F × IsTaken n name F
+PutRefuses n name F (fault.Spent tried) = IsFree n name F
+PutRefuses n name F other = Unit {0}
 
--- a fault that put answers
-abbrev pub IsPutFault : Fault → Type 0
-IsPutFault (fault.Misplaced c a b) = Unit {0}
-IsPutFault (fault.Conflict g a b) = Unit {0}
-IsPutFault fault.Taken = Unit {0}
-IsPutFault (fault.Spent tried) = Unit {0}
-IsPutFault (fault.Cloud c) = Unit {0}
-IsPutFault fault.Memory = Unit {0}
-IsPutFault fault.NoFile = ⊥
-IsPutFault (fault.Short list) = ⊥
-IsPutFault (fault.Unsound a b) = ⊥
+-- A fault that put may answer, whatever the clouds hold: no good code is among the candidates that the name draws, or it is none of
+-- those that only get answers.
+abbrev pub IsPutFault : ℕ → Setting → List ℕ → Fault → Type 0
+IsPutFault n s name (fault.Spent tried) = (tried ≡ s.budget) × HasNoCode n s name
+IsPutFault n s name fault.NoFile = ⊥
+IsPutFault n s name (fault.Short list) = ⊥
+IsPutFault n s name (fault.Unsound a b) = ⊥
+IsPutFault n s name other = Unit {0}

@@ -29,8 +29,8 @@ abbrev pub meta_place : ℕ → List ℕ → List ℕ → ℕ → Write
 meta_place n name payload c = sealed_place n c (Meta name 1) payload
 
 -- the object of this cloud under this key is sealed for it, with this payload
-abbrev pub Holds : ℕ → Contents → ℕ → Key → List ℕ → Type 0
-Holds n G c key payload = IsSomeAnd (G c key) (λ bytes. Sealed bytes c n (key_text key) payload)
+abbrev pub HoldsFrame : ℕ → Contents → ℕ → Key → List ℕ → Type 0
+HoldsFrame n G c key payload = IsSomeAnd (G c key) (λ bytes. Sealed bytes c n (key_text key) payload)
 
 -- all but the objects of this name are as before
 abbrev pub ChangesOnlyName : List ℕ → Contents → Contents → Type 0
@@ -38,7 +38,7 @@ ChangesOnlyName name F G = (c : ℕ) (key : Key) → name_of key ≢ name → G 
 
 -- the chunks of the file v by this code, in slot 0, are right
 pub record HasChunks (n : ℕ) (code : CodeParts) (name v : List ℕ) (G : Contents) : Type 0 where
-  pub right : (c r : ℕ) → c < n → r < 2 → Holds n G c (Chunk name 0 r) (combination (code_row code c r) v n)
+  pub right : (c r : ℕ) → c < n → r < 2 → HoldsFrame n G c (Chunk name 0 r) (combination (code_row code c r) v n)
 
 -- the first clouds' writes of both rows are made of these chunks, and the rest is left
 pub record AreSealed (n : ℕ) (name : List ℕ) (chunks : List (List ℕ)) (clouds : ℕ) (first second : List Job) (rest : List (List ℕ)) : Type 0 where
@@ -64,7 +64,7 @@ file_place n code name v r c = sealed_place n c (Chunk name 0 r) (combination (c
 pub record HasMetas (n : ℕ) (good : GoodParts) (name v : List ℕ) (G : Contents) : Type 0 where
   pub payload : List ℕ
   pub spells : Spells n payload (Live (first_meta n good v))
-  pub held : (c : ℕ) → c < n → Holds n G c (Meta name 1) payload
+  pub held : (c : ℕ) → c < n → HoldsFrame n G c (Meta name 1) payload
 
 -- the file v is stored under a new name by this code, and every other object is as before
 pub record Stores (n : ℕ) (good : GoodParts) (name v : List ℕ) (F G : Contents) : Type 0 where

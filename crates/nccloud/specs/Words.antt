@@ -1,10 +1,16 @@
 -- What the words of a run mean.
-use Rattle.std.specs.Prelude.{ℕ, ◌≡◌, ◌⊎◌, List, [], ◌∷◌, codes}
+use Rattle.std.specs.Prelude.{ℕ, ◌≡◌, ◌==◌, ◌⊎◌, List, [], ◌∷◌, codes}
+use Rattle.std.specs.List.{slice_split}
 use Rattle.nc_name.specs.Names.{IsName, RefusesName}
 use Rattle.nccloud.specs.declared.words.Command.{Command}
 use Rattle.nccloud.specs.declared.words.Command.TheVariants.{Put, Get}
 use Rattle.nccloud.specs.declared.words.WordFault.{WordFault}
 use Rattle.nccloud.specs.declared.words.WordFault.TheVariants.{Usage, Name}
+
+-- the paths of the clouds' folders: the parts of the first word between its commas
+abbrev pub folder_paths : List (List ℕ) → List (List ℕ)
+folder_paths [] = []
+folder_paths (list ∷ words) = slice_split (λ b. b == 44) list
 
 -- `put` and a text
 abbrev pub put_words : List ℕ → List (List ℕ)
@@ -42,13 +48,17 @@ target (Get name) = name
 abbrev pub IsCommandOf : List (List ℕ) → List ℕ → Type 0
 IsCommandOf words text = (words ≡ put_words text) ⊎ (words ≡ get_words text)
 
+-- they are none
+abbrev pub AsksNothing : List (List ℕ) → Type 0
+AsksNothing words = (text : List ℕ) → IsCommandOf words text → ⊥
+
 -- the words ask for this
 abbrev pub Asks : List (List ℕ) → Command → Type 0
 Asks words command = (words ≡ command_words command) × IsName (target command)
 
 -- why the words ask for nothing
 abbrev pub RefusesWords : List (List ℕ) → WordFault → Type 0
-RefusesWords words Usage = (text : List ℕ) → IsCommandOf words text → ⊥
+RefusesWords words Usage = AsksNothing words
 RefusesWords words (Name fault) = (text : List ℕ) × IsCommandOf words text × RefusesName text fault
 
 -- why a text is no name

@@ -1,8 +1,8 @@
 //! `get` of a file.
 ghost use Rattle.std.specs.Prelude.{◌≡◌, ◌≤◌};
-ghost use Rattle.nc_cloud.specs.Contents.{Rose, Grows};
+ghost use Rattle.nc_cloud.specs.Contents.{Grows};
 ghost use Rattle.nccloud.specs.Got.{GetAnswers, GivesHeld, ReadsNoChunk};
-ghost use Rattle.nccloud.specs.Run.{IfVault, IsDone, IsGot, HasFaultCause, StaysClean};
+ghost use Rattle.nccloud.specs.Run.{CountsStream, IfVault, IsDone, IsGot, HasFaultCause, StaysClean};
 ghost use Rattle.nccloud.specs.Settings.{IsSetting};
 
 use crate::setting::Setting;
@@ -31,7 +31,7 @@ pub fn get<R: Threads + Sync, F: Fleet, K: Sink>(
     ensures answers { F.tells → GetAnswers (F.clouds fleet.old) name.now (F.held fleet.old) (K.written out.old) (K.written out.new) result }
     ensures gives { F.tells → GivesHeld (F.clouds fleet.old) name.now (F.held fleet.old) (F.faults fleet.old) (F.faults fleet.new) (K.written out.old) (K.written out.new) result }
     ensures unread { IfVault result (ReadsNoChunk (F.chunk_gets fleet.old) (F.chunk_gets fleet.new)) }
-    ensures write { result ≡ Status.WriteFault → Rose (K.faults out.old) (K.faults out.new) }
+    ensures write { CountsStream Status.WriteFault K.counts_exactly (K.faults out.old) (K.faults out.new) result }
     ensures quiet { (IsDone result → ⊥) → out.new ≡ out.old }
     ensures cause { IfVault result (HasFaultCause F.counts_exactly (F.clouds fleet.old) (F.faults fleet.old) (F.faults fleet.new)) }
     ensures clean { IsDone result → StaysClean F.counts_exactly (F.clouds fleet.old) (F.faults fleet.old) (F.faults fleet.new) }

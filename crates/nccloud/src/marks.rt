@@ -1,6 +1,6 @@
-ghost use Rattle.std.specs.Prelude.{◌≡◌, ◌≤◌, ◌<◌, ℕ, [], length, replicate, slice_index, slice_index_or};
+ghost use Rattle.std.specs.Prelude.{◌≡◌, ◌≤◌, length};
 ghost use Rattle.sha2.specs.Sha256.{sha256};
-ghost use Rattle.nc_bytes.specs.Bytes.{AreBytes};
+ghost use Rattle.nc_bytes.specs.Bytes.{AreBytes, AreZeroPast};
 ghost use Rattle.nc_code.specs.Parts.{IsTable};
 ghost use Rattle.nccloud.specs.Marks.{AreMarks};
 
@@ -12,7 +12,7 @@ pub fn marks_of(chunks: &[Blob]) -> [[u8; 32]; 20]
     requires { length chunks.now ≤ 20 }
     ensures marks { AreMarks chunks.now result }
     ensures shape { IsTable 20 32 result }
-    ensures past { (i k : ℕ) → length chunks.now ≤ i → slice_index (slice_index_or result i []) k ≡ 0 }
+    ensures past { AreZeroPast (length chunks.now) result }
 {
     let mut marks = [[0; 32]; 20];
     for (i, chunk) in chunks.iter().enumerate() {

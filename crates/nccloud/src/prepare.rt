@@ -1,5 +1,6 @@
 //! All writes of a new file, made before the first of them.
-ghost use Rattle.std.specs.Prelude.{List, ◌≡◌, ◌≤◌, ◌<◌, ◌*◌, ◌^◌, ℕ, [], IfErr, IfOk, length, Some, replicate, slice_index, slice_index_or};
+ghost use Rattle.std.specs.Prelude.{List, ◌≡◌, ◌≤◌, ◌<◌, ◌*◌, ◌^◌, ℕ, IfErr, IfOk, length, Some, replicate};
+ghost use Rattle.nc_bytes.specs.Bytes.{AreZeroPast};
 ghost use Rattle.nc_code.specs.Good.{IsGood, plan_of};
 ghost use Rattle.nc_code.specs.Parts.{IsCode, IsPlan, IsTable};
 ghost use Rattle.nc_meta.specs.declared.meta.Live.{Live};
@@ -97,7 +98,7 @@ fn first_payload(
 ) -> Result<Blob, Memory>
     requires short { len ≤ 2 ^ 26 }
     requires marks { IsTable 20 32 marks.now }
-    requires past { (i k : ℕ) → 2 * good.now.code.width ≤ i → slice_index (slice_index_or marks.now i []) k ≡ 0 }
+    requires past { AreZeroPast (2 * good.now.code.width) marks.now }
     ensures { IfOk result (λ payload. Spells good.now.code.width payload (LiveMeta (record { generation = 1; len = len; code = good.now.code; slots = replicate 10 0; marks = marks.now; witnesses = Some good.now.witnesses }))) }
 {
     let width = good.code().width();

@@ -2,7 +2,6 @@
 ghost use Rattle.std.specs.Prelude.{◌≡◌, ◌≤◌, ◌<◌, ◌^◌, ℕ, List, IfErr, OnOk, length};
 ghost use Rattle.nc_cloud.specs.Contents.{Grows};
 ghost use Rattle.nc_cloud.specs.Deciding.{HasCause};
-ghost use Rattle.nc_bytes.specs.Bytes.{AreBytes};
 ghost use Rattle.nc_nextloss.specs.GoodCodes.{GoodParts};
 ghost use Rattle.nccloud.specs.Drawing.{HasNoCode};
 ghost use Rattle.nccloud.specs.Refusals.{IsFree, IsPutFault, PutRefuses};
@@ -16,6 +15,7 @@ use crate::drawing::first_code;
 use crate::prepare::{Prepared, prepare};
 use crate::setting::Setting;
 use crate::status::Fault;
+use nc_bytes::told_bytes;
 use nc_cloud::{Fleet, Job, RoundFault, write_row};
 use nc_name::{Blob, Name};
 use nc_settle::{View, look};
@@ -39,8 +39,8 @@ pub fn put<R: Threads + Sync, F: Fleet>(
     requires short { length bytes ≤ 2 ^ 26 }
     ensures stored { F.tells → OnOk result (StoresFirst (F.clouds fleet.old) setting.now name.now bytes (F.held fleet.old) (F.held fleet.new)) }
     ensures free { F.tells → OnOk result (IsFree (F.clouds fleet.old) name.now (F.held fleet.old)) }
-    ensures begins { IfErr result IsPutFault }
-    ensures refused { F.tells → IfErr result (PutRefuses (F.clouds fleet.old) setting.now name.now (F.held fleet.old)) }
+    ensures fault { IfErr result (IsPutFault (F.clouds fleet.old) setting.now name.now) }
+    ensures refused { F.tells → IfErr result (PutRefuses (F.clouds fleet.old) name.now (F.held fleet.old)) }
     ensures kept { F.tells → (IsFree (F.clouds fleet.old) name.now (F.held fleet.old) → ⊥) → F.held fleet.new ≡ F.held fleet.old }
     ensures spent { HasNoCode (F.clouds fleet.old) setting.now name.now → F.held fleet.new ≡ F.held fleet.old }
     ensures only { F.tells → ChangesOnlyName name.now (F.held fleet.old) (F.held fleet.new) }
@@ -58,7 +58,7 @@ pub fn put<R: Threads + Sync, F: Fleet>(
         Ok(good) => good,
         Err(fault) => return Err(fault),
     };
-    are_bytes(bytes.bytes());
+    told_bytes(bytes.bytes());
     let Prepared {
         first,
         second,
@@ -69,13 +69,6 @@ pub fn put<R: Threads + Sync, F: Fleet>(
         Err(RoundFault::Cloud(cloud)) => Err(Fault::Cloud(cloud)),
         Err(RoundFault::Memory) => Err(Fault::Memory),
     }
-}
-
-/// What a slice has are bytes: said for the proof.
-fn are_bytes(bytes: &[u8])
-    ensures { AreBytes bytes.now }
-{
-    let _ = bytes;
 }
 
 /// Writes both rows of chunks, and then the metadata, each in a round. The first round that isn't Ok is the last.

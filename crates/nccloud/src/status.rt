@@ -6,59 +6,77 @@ ghost use Rattle.nccloud.specs.declared.status.Fault.TheVariants.{Memory as NoMe
 use nc_cloud::RoundFault;
 use nc_download::{FetchFault, ShortList};
 use nc_name::{Memory, NameFault};
+use thiserror::Error;
 
 /// Why a command wasn't done on the clouds.
-#[derive(Debug, Drop)]
+#[derive(Debug, Drop, Error)]
 pub enum Fault {
     /// There is no file of this name.
+    #[error("there is no file of this name")]
     NoFile,
     /// This cloud failed: the least of the first step in which one did.
+    #[error("cloud {0} failed")]
     Cloud(u8),
     /// Too few clouds are good. Each that isn't is listed, with its cause.
+    #[error("too few clouds are good")]
     Short(ShortList),
     /// Clouds `a` and `b` hold different metadata of the highest generation.
+    #[error("clouds {a} and {b} hold different metadata of generation {generation}")]
     Conflict {
         generation: u64,
         a: u8,
         b: u8,
     },
     /// This cloud holds metadata of another cloud or width.
+    #[error("cloud {cloud} holds metadata of cloud {said_cloud} of {said_width}")]
     Misplaced {
         cloud: u8,
         said_cloud: u8,
         said_width: u8,
     },
     /// The rows of the file's code without clouds `a` and `b` are dependent.
+    #[error("the code doesn't stand the loss of clouds {a} and {b}")]
     Unsound {
         a: u8,
         b: u8,
     },
     /// Some cloud holds metadata of this name.
+    #[error("the name is taken")]
     Taken,
     /// None of so many candidates for a code is good.
+    #[error("none of {0} candidates for a code is good")]
     Spent(u16),
     /// No memory was found.
+    #[error("no memory was found")]
     Memory,
 }
 
 /// How a run ended.
-#[derive(Debug, Drop)]
+#[derive(Debug, Drop, Error)]
 pub enum Status {
     /// The command was done.
+    #[error("the command was done")]
     Ok,
     /// There are not 4 to 10 clouds.
+    #[error("{0} clouds are not 4 to 10")]
     Width(usize),
     /// The words are no command with exactly its arguments.
+    #[error("the words are no command with its arguments")]
     Usage,
     /// The words are a command, but the name isn't one.
+    #[error("the name isn't one")]
     Name(NameFault),
     /// The input is longer than 64 MiB.
+    #[error("the input is longer than 64 MiB")]
     TooLong,
     /// The input failed before its end.
+    #[error("the input failed before its end")]
     ReadFault,
     /// The output failed. The command was done.
+    #[error("the output failed, and the command was done")]
     WriteFault,
     /// The command wasn't done on the clouds.
+    #[error("{0}")]
     Vault(Fault),
 }
 

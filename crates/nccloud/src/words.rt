@@ -3,6 +3,7 @@ ghost use Rattle.nc_name.specs.Names.{IsName};
 ghost use Rattle.nccloud.specs.Words.{Asks, RefusesText, RefusesWords};
 
 use nc_name::{Name, NameFault};
+use thiserror::Error;
 
 /// What the words ask for.
 #[derive(Clone, Copy, Debug)]
@@ -14,11 +15,13 @@ pub enum Command {
 }
 
 /// Why the words ask for nothing.
-#[derive(Clone, Copy, Debug)]
+#[derive(Clone, Copy, Debug, Error)]
 pub enum WordFault {
     /// They aren't one of the commands with exactly its arguments.
+    #[error("the words are no command with its arguments")]
     Usage,
     /// They are, but the name isn't one.
+    #[error("the name isn't one")]
     Name(NameFault),
 }
 

@@ -3,8 +3,9 @@ use Rattle.std.specs.Io.KnownBytes.{Appends}
 use Rattle.nccloud.specs.declared.status.Fault.{Fault}
 use Rattle.nccloud.specs.declared.status.Status.TheVariants.{Vault}
 use Rattle.nccloud.specs.Got.{Gives, ReadsNoChunk}
+use Rattle.nccloud.specs.Run.{IsGot}
 use Rattle.nc_stream.specs.Output.{AppendsSome}
-use Rattle.nccloud.proofs.GetLaws.{refused_gives, refused_unread}
+use Rattle.nccloud.proofs.GetLaws.{refused_gives, refused_got, refused_unread}
 use Rattle.nccloud.proofs.get.get.Goals as goal
 
 pub returns-in-Ok-send-clause-gives : goal.returns-in-Ok-send-clause-gives
@@ -30,3 +31,6 @@ pub returns-clause-unread : goal.returns-clause-unread
 returns-clause-unread g c =
     subst (λ (f : Fault). ReadsNoChunk (g.F.Fleet.chunk_gets c.args.fleet.now) (g.F.Fleet.chunk_gets c.fetch.new.fleet) f) (sym c.from.ensures)
     (refused_unread _ _ c.in-Err.fault c.in-Err.ensures.unread)
+
+pub returns-clause-begun : goal.returns-clause-begun
+returns-clause-begun g c = subst (λ (f : Fault). IsGot (Vault f)) (sym c.from.ensures) (refused_got c.in-Err.fault)

@@ -1,9 +1,6 @@
-use Rattle.std.proofs.Common.{◌≡◌}
-use Rattle.nccloud.specs.Drawing.{HasNoCode}
-use Rattle.nccloud.specs.Refusals.{PutRefuses}
-use Rattle.nccloud.specs.Run.{IfVault}
+use Rattle.nccloud.specs.Run.{GetDoes, PutDoes}
 use Rattle.nccloud.specs.Settings.{standard}
-use Rattle.nccloud.proofs.WordLaws.{asked_name, asked_put, asked_usage, named_usage}
+use Rattle.nccloud.proofs.WordLaws.{asked_get, asked_name, asked_put, asked_usage, named_usage}
 use Rattle.nccloud.proofs.run.run.Goals as goal
 
 pub returns-in-Ok-clause-usage : goal.returns-in-Ok-clause-usage
@@ -15,12 +12,12 @@ returns-in-Err-Name-clause-usage g c = named_usage _ _ c.in-Err-Name.field-0 _ _
 pub returns-in-Ok-clause-named : goal.returns-in-Ok-clause-named
 returns-in-Ok-clause-named g c begun text is = asked_name _ c.in-Ok.command c.in-Ok.ensures.command text is
 
-pub returns-in-Ok-clause-refused : goal.returns-in-Ok-clause-refused
-returns-in-Ok-clause-refused g c told text is =
-    asked_put _ c.in-Ok.command (λ name. IfVault c.perform.result (PutRefuses (g.F.Fleet.clouds c.args.fleet.now) standard name (g.F.Fleet.held c.args.fleet.now))) c.in-Ok.ensures.command
-    (c.perform.ensures.refused told) text is
+pub returns-in-Ok-clause-put : goal.returns-in-Ok-clause-put
+returns-in-Ok-clause-put g c text is begun =
+    asked_put _ c.in-Ok.command (λ name. PutDoes g.F.Fleet g.S.Source g.K.Sink standard name c.args.fleet.now c.perform.new.fleet c.args.source.now c.perform.new.source c.args.out.now c.perform.new.out c.perform.result) c.in-Ok.ensures.command
+    c.perform.ensures.put text is
 
-pub returns-in-Ok-clause-spent : goal.returns-in-Ok-clause-spent
-returns-in-Ok-clause-spent g c text is =
-    asked_put _ c.in-Ok.command (λ name. HasNoCode (g.F.Fleet.clouds c.args.fleet.now) standard name → g.F.Fleet.held c.perform.new.fleet ≡ g.F.Fleet.held c.args.fleet.now) c.in-Ok.ensures.command
-    c.perform.ensures.spent text is
+pub returns-in-Ok-clause-get : goal.returns-in-Ok-clause-get
+returns-in-Ok-clause-get g c text is begun =
+    asked_get _ c.in-Ok.command (λ name. GetDoes g.F.Fleet g.K.Sink name c.args.fleet.now c.perform.new.fleet c.args.out.now c.perform.new.out c.perform.result) c.in-Ok.ensures.command
+    c.perform.ensures.get text is
