@@ -5,9 +5,9 @@ ghost use Rattle.nc_bytes.specs.Bytes.{AreBytes};
 ghost use Rattle.nc_matrix.specs.Cells.{entry};
 ghost use Rattle.nc_matrix.specs.Elimination.{AreRows, IsAugmented, IsNormalized, IsPivot, IsReadOff, IsReduced, IsScaled, IsSheared, IsStep, clearing, lifting};
 
-use super::rows::{augmented_row, multiple, right_row};
+use super::rows::{augmented_row, multiple, plus_multiple, right_row};
 use super::square::Square;
-use nc_gf256::{inv, plus_times};
+use nc_gf256::inv;
 
 /// The square's rows with those of the identity beside them.
 pub fn augmented(a: &Square) -> [[u8; 32]; 16]
@@ -47,7 +47,7 @@ pub fn lifted(rows: &[[u8; 32]; 16], n: usize, c: usize, p: usize) -> [[u8; 32];
 {
     let mut raised = *rows;
     if p != c {
-        raised[c] = plus_times(&rows[c], &rows[p], 1);
+        raised[c] = plus_multiple(&rows[c], &rows[p], 1);
     }
     raised
 }
@@ -102,7 +102,7 @@ pub fn cleared(rows: &[[u8; 32]; 16], n: usize, c: usize) -> [[u8; 32]; 16]
 {
     let mut clear = *rows;
     for i in 0..n {
-        clear[i] = plus_times(&rows[i], &rows[c], clearing_multiple(rows, i, c));
+        clear[i] = plus_multiple(&rows[i], &rows[c], clearing_multiple(rows, i, c));
     }
     clear
 }

@@ -6,18 +6,13 @@ ghost use Rattle.nc_matrix.specs.Cells.{entry};
 ghost use Rattle.nc_matrix.specs.Products.{product_entry};
 
 use super::square::Square;
-use nc_gf256::{add, mul};
 
 /// The dot product of the first `n` entries of two rows.
 pub fn dot(row: &[u8; 16], other: &[u8; 16], n: usize) -> u8
     requires { n ≤ 16 }
     ensures { result ≡ dot n row.now other.now }
 {
-    let mut sum = 0;
-    for k in 0..n {
-        sum = add(sum, mul(row[k], other[k]));
-    }
-    sum
+    nc_lanes::dot(&row[..n], &other[..n])
 }
 
 /// Column `k` of a square.

@@ -1,11 +1,24 @@
 //! Rows of 32 bytes, made from others.
 
-ghost use Rattle.std.specs.Prelude.{◌≡◌, ℕ, ◌+◌, ◌<◌, ◌≤◌, slice_index};
+ghost use Rattle.std.specs.Prelude.{◌≡◌, ℕ, ◌+◌, ◌<◌, ◌≤◌, slice_index, bit_xor};
 ghost use Rattle.nc_bytes.specs.Bytes.{AreBytes};
 ghost use Rattle.nc_gf256.specs.Field.{mul};
 ghost use Rattle.nc_gf256.specs.Rows.{unit};
 
-use nc_gf256::mul;
+use nc_bytes::told_bytes;
+use nc_lanes::{mul_add, scale};
+
+/// The row with `t` times another row added to it.
+pub fn plus_multiple(row: &[u8; 32], other: &[u8; 32], t: u8) -> [u8; 32]
+    ensures bytes { AreBytes result }
+    ensures sums { (k : ℕ) → slice_index result k
+        ≡ bit_xor (slice_index row.now k) (mul t (slice_index other.now k)) }
+{
+    let mut sum = *row;
+    mul_add(&mut sum, other, t);
+    told_bytes(&sum);
+    sum
+}
 
 /// The row multiplied by `t`.
 pub fn multiple(row: &[u8; 32], t: u8) -> [u8; 32]
@@ -13,9 +26,8 @@ pub fn multiple(row: &[u8; 32], t: u8) -> [u8; 32]
     ensures products { (k : ℕ) → slice_index result k ≡ mul t (slice_index row.now k) }
 {
     let mut product = *row;
-    for k in 0..32usize {
-        product[k] = mul(t, row[k]);
-    }
+    scale(&mut product, t);
+    told_bytes(&product);
     product
 }
 

@@ -1,15 +1,14 @@
-use Rattle.std.proofs.Common.{slice_index, sym, ap, ◌∙◌, bit_xor}
-use Rattle.nc_gf256.specs.Field.{mul}
+use Rattle.std.proofs.Common.{◌≡◌, ℕ, ◌≤◌, List, length, take, ap, ◌∙◌, arith, get_or-take, length-take-le}
 use Rattle.nc_gf256.specs.Rows.{dot}
-use Rattle.nc_gf256.proofs.Sums.{total_nil, total_more}
+use Rattle.nc_gf256.proofs.Sums.{dot_same}
 use Rattle.nc_matrix.proofs.products.dot.Goals as goal
 
-pub loop-k-init : goal.loop-k-init
-loop-k-init c = sym (total_nil (λ i. mul (slice_index c.args.row.now i) (slice_index c.args.other.now i)))
+fronts : (n : ℕ) (row other : List ℕ) → n ≤ length row → dot (length (take n row)) (take n row) (take n other) ≡ dot n row other
+fronts n row other le =
+    ap (λ k. dot k (take n row) (take n other)) (length-take-le n row le)
+    ∙ dot_same n (take n row) row (take n other) other (λ i lt. get_or-take n row i 0 lt) (λ i lt. get_or-take n other i 0 lt)
 
-pub loop-k-preserved : goal.loop-k-preserved
-loop-k-preserved c =
-    c.add-sum.ensures
-    ∙ ap (λ s. bit_xor s c.mul.result) c.loop-k.invariant
-    ∙ ap (bit_xor (dot c.loop-k.k c.args.row.now c.args.other.now)) c.mul.ensures
-    ∙ sym (total_more c.loop-k.k (λ i. mul (slice_index c.args.row.now i) (slice_index c.args.other.now i)))
+pub returns : goal.returns
+returns c =
+    let long = c.told-row in
+    c.dot.ensures ∙ fronts c.args.n c.args.row.now c.args.other.now (omega arith)
