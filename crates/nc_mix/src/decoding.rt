@@ -116,6 +116,7 @@ pub fn decode_with<R: Threads + Sync, G: Gate + Sync>(
 ) -> Result<Blob, Memory>
     requires count { length (chunks_in pieces.now) ≤ 16 }
     requires long { AllLong size (chunks_in pieces.now) }
+    requires some_worker { 1 ≤ workers }
     ensures { IfOk result (λ file. file ≡ take len (solved size (chunks_in pieces.now) rows.now)) }
 {
     let sources = lend_pieces(alloc, pieces)?;
@@ -140,6 +141,7 @@ fn solve_into<R: Threads + Sync, G: Gate + Sync>(
 )
     requires count { length (lent sources.now) ≤ 16 }
     requires long { AllLong size (lent sources.now) }
+    requires some_worker { 1 ≤ workers }
     requires zeros { dst.old ≡ replicate (length rows.now * size) 0 }
     ensures { dst.new ≡ solved size (lent sources.now) rows.now }
 {

@@ -19,3 +19,5 @@ pub type Chunks = Sequence<Blob>;
 
 #[cfg(test)]
 mod tests;
+#[cfg(test)]
+mod worker_tests;

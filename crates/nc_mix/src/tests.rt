@@ -4,7 +4,7 @@ ghost use Rattle.nc_native.specs.Native.{chunk_size};
 ghost use Rattle.nc_mix.specs.Decoding.{IsLong};
 
 use crate::decoding::{decode_with, first_rows, square_of};
-use crate::{Open, Piece, encode};
+use crate::{Gate, Open, Piece, encode};
 use nc_code::{Code, striped};
 use nc_matrix::{Outcome, invert};
 use nc_name::{Blob, Memory};
@@ -114,13 +114,16 @@ fn pieces_without(
 
 /// What the pieces decode to, where their rows can be inverted. (`decode` itself asks that the code be MDS, which is proved
 /// in another crate.)
-fn decoded<R: Threads + Sync>(
+fn decoded<R: Threads + Sync, G: Gate + Sync>(
     rt: &R,
     alloc: Global,
     pieces: &[Piece],
     code: &Code,
     len: u64,
+    workers: u8,
+    gate: &G,
 ) -> Result<Option<Blob>, Memory>
+    requires some_worker { 1 ≤ workers }
     requires count { length pieces.now + 2 ≡ code.now.width }
     requires in_width { All (λ x. x.cloud < code.now.width) pieces.now }
     requires long { All (IsLong (chunk_size len code.now.width)) pieces.now }
@@ -129,7 +132,7 @@ fn decoded<R: Threads + Sync>(
     match invert(&square_of(pieces, code)) {
         Outcome::Inverse(inverse) => {
             let rows = first_rows(&inverse.cells, inverse.size as usize);
-            let file = decode_with(rt, alloc, pieces, rows, size, len as usize, 1, &Open)?;
+            let file = decode_with(rt, alloc, pieces, rows, size, len as usize, workers, gate)?;
             Ok(Some(file))
         }
         Outcome::Kernel(_) => Ok(None),
@@ -137,7 +140,7 @@ fn decoded<R: Threads + Sync>(
 }
 
 /// Whether the file comes back without the clouds `a` and `b`.
-fn comes_back<R: Threads + Sync>(
+pub fn comes_back<R: Threads + Sync, G: Gate + Sync>(
     rt: &R,
     alloc: Global,
     chunks: &[Blob],
@@ -145,8 +148,11 @@ fn comes_back<R: Threads + Sync>(
     file: &[u8],
     a: u8,
     b: u8,
+    workers: u8,
+    gate: &G,
 ) -> Result<bool, Fail>
-    requires { length chunks.now ≡ 2 * code.now.width }
+    requires count { length chunks.now ≡ 2 * code.now.width }
+    requires some_worker { 1 ≤ workers }
 {
     let width = code.width();
     let len = file.len() as u64;
@@ -155,14 +161,14 @@ fn comes_back<R: Threads + Sync>(
     if pieces.len() + 2 != width as usize {
         return Err(Fail::from("not all but two clouds"));
     }
-    match decoded(rt, alloc, &pieces, code, len)? {
+    match decoded(rt, alloc, &pieces, code, len, workers, gate)? {
         Some(found) => Ok(found.bytes() == file),
         None => Ok(false),
     }
 }
 
 /// The bytes 0 to 250 again and again.
-fn file_of(alloc: Global, len: u32) -> Result<Vec<u8>, Memory> {
+pub fn file_of(alloc: Global, len: u32) -> Result<Vec<u8>, Memory> {
     let mut file = Vec::new(alloc);
     for i in 0..len {
         file.push((i % 251) as u8)?;
@@ -182,7 +188,7 @@ fn pairs_to_lose<R: Threads + Sync>(rt: &R, alloc: Global, width: u8, len: u32) 
     let mut count: u8 = 0;
     for b in 1..width {
         for a in 0..b {
-            if comes_back(rt, alloc, chunks.items(), &code, &file, a, b)? {
+            if comes_back(rt, alloc, chunks.items(), &code, &file, a, b, 1, &Open)? {
                 count = count.saturating_add(1);
             }
         }
