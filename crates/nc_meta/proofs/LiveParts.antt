@@ -2,12 +2,12 @@
 use Rattle.std.proofs.Common.{arith, sym, ap, ◌∙◌, append_assoc}
 use Rattle.std.proofs.lemmas.List.{take_all}
 use Rattle.std.specs.Prelude.{ℕ, ◌≡◌, ◌+◌, ◌*◌, ◌<◌, ◌≤◌, ◌^◌, List, [], ◌∷◌, ◌++◌, length, slice_index, slice_index_or, take, drop}
-use Rattle.nc_bytes.specs.Bytes.{AreBytes, part, bytes_8}
+use Rattle.nc_bytes.specs.Bytes.{padded, AreBytes, part, bytes_8}
 use Rattle.nc_bytes.proofs.Places.{length-part}
 use Rattle.nc_gf256.specs.Width.{native_count}
 use Rattle.nc_code.specs.Parts.{IsCode}
 use Rattle.nc_meta.specs.declared.meta.Live.{Live}
-use Rattle.nc_meta.specs.Parts.{AreBits, IsGeneration, each, padded}
+use Rattle.nc_meta.specs.Parts.{AreBits, IsGeneration, each}
 use Rattle.nc_meta.specs.Metas.{IsLive, SpellsLive, SpellsWitnesses, stored_row}
 use Rattle.nc_meta.proofs.Each.{each_parts, each_same}
 use Rattle.nc_meta.proofs.Padding.{length-padded, padded_below, padded_full, padded_past, take_padded}

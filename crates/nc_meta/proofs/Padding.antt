@@ -1,9 +1,11 @@
 -- Bytes with zeros after them.
 use Rattle.std.proofs.Common.{arith, refl, sym, ap, ap₂, ◌∙◌, append_assoc, length-append, inl, inr, take-append-drop}
+use Rattle.nc_bytes.specs.Bytes.{padded}
+use Rattle.nc_gf256.proofs.RowSums.{zeros_everywhere}
 use Rattle.std.proofs.lemmas.Bool.{cases_lt}
 use Rattle.std.proofs.lemmas.List.{append-nil, drop-drop, drop_at, get_or-append_right, get_or_append_left, get_or-drop, get_or-replicate, get_or-take, get_or_at, get_or_past, length-drop, length-replicate, length-take, length-take-le, take_at}
 use Rattle.std.specs.Prelude.{ℕ, ◌≡◌, ◌+◌, ◌-◌, ◌<◌, ◌≤◌, zero, suc, List, [], ◌∷◌, ◌++◌, length, replicate, slice_index, take, drop}
-use Rattle.nc_meta.specs.Parts.{padded, of_survivors, spread}
+use Rattle.nc_meta.specs.Parts.{of_survivors, spread}
 
 -- ---- all below a bound
 
@@ -45,19 +47,13 @@ below_within bound xs some all i = elim (cases_lt i (length xs)) [
 
 -- ---- zeros
 
-zeros_at : (k i : ℕ) → slice_index (replicate k 0) i ≡ 0
-zeros_at k i = elim (cases_lt i k) [
-  | inl low ↦ get_or-replicate k i 0 0 low
-  | inr high ↦ get_or_past (replicate k 0) i 0 (omega (arith, length-replicate {A = ℕ} k 0))
-]
-
 pub padded_past : (size : ℕ) (xs : List ℕ) (t : ℕ) → length xs ≤ t → slice_index (padded size xs) t ≡ 0
 padded_past size xs t past =
-    get_or-append_right xs (replicate (size - length xs) 0) (length xs) t 0 refl past ∙ zeros_at (size - length xs) (t - length xs)
+    get_or-append_right xs (replicate (size - length xs) 0) (length xs) t 0 refl past ∙ zeros_everywhere (size - length xs) (t - length xs)
 
 pub padded_below : (bound size : ℕ) (xs : List ℕ) → 0 < bound → Below bound xs → Below bound (padded size xs)
 padded_below bound size xs some all =
-    below_append bound xs (replicate (size - length xs) 0) all (λ i. rw zeros_at some)
+    below_append bound xs (replicate (size - length xs) 0) all (λ i. rw zeros_everywhere some)
 
 pub length-padded : (size : ℕ) (xs : List ℕ) → length xs ≤ size → length (padded size xs) ≡ size
 length-padded size xs fits =

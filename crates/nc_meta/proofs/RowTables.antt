@@ -4,10 +4,9 @@ use Rattle.std.proofs.Math.Nat.{mul-le-mul_right, suc-mul}
 use Rattle.std.proofs.lemmas.Bool.{cases_lt}
 use Rattle.std.proofs.lemmas.List.{get_or_past}
 use Rattle.std.specs.Prelude.{ℕ, ◌≡◌, ◌+◌, ◌*◌, ◌<◌, ◌≤◌, suc, List, [], length, slice_index, slice_index_or}
-use Rattle.nc_bytes.specs.Bytes.{AreBytes, part}
+use Rattle.nc_bytes.specs.Bytes.{padded, AreBytes, part}
 use Rattle.nc_bytes.proofs.Places.{length-part, part_bytes}
 use Rattle.nc_code.specs.Parts.{IsTable}
-use Rattle.nc_meta.specs.Parts.{padded}
 use Rattle.nc_meta.proofs.Padding.{length-padded, padded_below, padded_past}
 
 -- twenty rows of N bytes: the first `count` have `size` bytes from the place `at` on, the others none

@@ -1,6 +1,6 @@
 -- The payloads of metadata: which values are stored, and their spelling.
 use Rattle.std.specs.Prelude.{ℕ, ◌≡◌, ◌*◌, ◌<◌, ◌≤◌, ◌^◌, Option, None, Some, List, [], ◌∷◌, ◌++◌, IfSome, length, slice_index, slice_index_or, take}
-use Rattle.nc_bytes.specs.Bytes.{AreBytes, bytes_8}
+use Rattle.nc_bytes.specs.Bytes.{AreZeroPast, IsZeroPast, AreBytes, bytes_8}
 use Rattle.nc_gf256.specs.Width.{native_count}
 use Rattle.nc_code.specs.Parts.{PlanParts, IsCode, IsPlan, IsTable}
 use Rattle.nc_code.specs.Codes.{IsBare, no_plan}
@@ -28,9 +28,9 @@ pub record IsLive (n : ℕ) (m : LiveMeta) : Type 0 where
   pub code : IsCode m.code
   pub slot_count : length m.slots ≡ 10
   pub slots : AreBits m.slots
-  pub slots_past : (c : ℕ) → n ≤ c → slice_index m.slots c ≡ 0
+  pub slots_past : IsZeroPast n m.slots
   pub marks : IsTable 20 32 m.marks
-  pub marks_past : (i k : ℕ) → 2 * n ≤ i → slice_index (slice_index_or m.marks i []) k ≡ 0
+  pub marks_past : AreZeroPast (2 * n) m.marks
   pub witnesses : IfSome m.witnesses (AreWitnesses n)
 
 abbrev pub IsMeta : ℕ → Meta → Type 0

@@ -1,15 +1,11 @@
 -- The parts of payloads.
 use Rattle.std.specs.Prelude.{ℕ, ◌+◌, ◌-◌, ◌<◌, ◌≤◌, ◌^◌, zero, suc, List, [], ◌∷◌, ◌++◌, length, replicate, slice_index, take, drop}
-use Rattle.nc_bytes.specs.Bytes.{part}
+use Rattle.nc_bytes.specs.Bytes.{padded, part}
 
 -- f 0, f 1 and so on, so many of them, end to end
 abbrev pub each : ℕ → (ℕ → List ℕ) → List ℕ
 each zero f = []
 each (suc k) f = each k f ++ f k
-
--- the bytes, and zeros up to this size
-abbrev pub padded : ℕ → List ℕ → List ℕ
-padded size bytes = bytes ++ replicate (size - length bytes) 0
 
 -- what is said of the survivors of a loss, among n clouds, ascending
 abbrev pub of_survivors : ℕ → ℕ → List ℕ → List ℕ

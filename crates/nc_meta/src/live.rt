@@ -6,8 +6,8 @@ ghost use Rattle.nc_meta.specs.Metas.{IsLive, SpellsLive, live_spelling};
 
 use crate::meta::Live;
 use crate::plans::{put_witnesses, read_witnesses};
-use crate::tables::{are_bits, is_generation, padded, put_rows, rows_at};
-use nc_bytes::{is_same, part_of, u64_at, u64_bytes};
+use crate::tables::{are_bits, is_generation, put_rows, rows_at};
+use nc_bytes::{is_same, padded, part_of, u64_at, u64_bytes};
 use nc_code::Code;
 use nc_name::Memory;
 use std::alloc::Global;

@@ -1,20 +1,9 @@
 ghost use Rattle.std.specs.Prelude.{◌≡◌, ◌↔◌, ◌+◌, ◌*◌, ◌<◌, ◌≤◌, ◌++◌, ℕ, [], IsTrue, IfOk, length, slice_index, slice_index_or, take};
-ghost use Rattle.nc_bytes.specs.Bytes.{part};
-ghost use Rattle.nc_meta.specs.Parts.{IsGeneration, each, padded};
+ghost use Rattle.nc_bytes.specs.Bytes.{padded, part};
+ghost use Rattle.nc_meta.specs.Parts.{IsGeneration, each};
 
-use nc_bytes::part_of;
+use nc_bytes::{padded, part_of};
 use nc_name::Memory;
-
-/// The bytes, and zeros after them.
-pub(crate) fn padded<const N: usize>(bytes: &[u8]) -> [u8; N]
-    requires { length bytes.now ≤ N }
-    ensures { result ≡ padded N bytes.now }
-{
-    let mut whole = [0; N];
-    let (front, _) = whole.split_at_mut(bytes.len());
-    front.copy_from_slice(bytes);
-    whole
-}
 
 /// Rows of `size` bytes, `count` of them, which stand from place `at` on; rows after them are 0.
 pub(crate) fn rows_at<const N: usize>(

@@ -1,10 +1,10 @@
 use Rattle.std.proofs.Common.{arith, ℕ, List, ◌*◌, sym, ap, subst, ◌∙◌}
 use Rattle.std.proofs.lemmas.List.{take_rest}
 use Rattle.nc_bytes.proofs.Numbers.{bytes_8-same}
-use Rattle.nc_bytes.specs.Bytes.{AreBytes}
+use Rattle.nc_bytes.specs.Bytes.{padded, AreBytes}
 use Rattle.nc_gf256.specs.Width.{native_count}
 use Rattle.nc_code.specs.Parts.{CodeParts}
-use Rattle.nc_meta.specs.Parts.{IsGeneration, padded}
+use Rattle.nc_meta.specs.Parts.{IsGeneration}
 use Rattle.nc_meta.specs.Metas.{SpellsWitnesses}
 use Rattle.nc_meta.proofs.RowTables.{AreRead}
 use Rattle.nc_meta.proofs.Padding.{below_take, below_within}

@@ -1,6 +1,5 @@
 use Rattle.std.proofs.Common.{◌≡◌, ◌+◌, ◌*◌, ◌<◌, ◌≤◌, ℕ, [], length, slice_index_or}
-use Rattle.nc_bytes.specs.Bytes.{part}
-use Rattle.nc_meta.specs.Parts.{padded}
+use Rattle.nc_bytes.specs.Bytes.{padded, part}
 use Rattle.nc_meta.proofs.tables.rows_at.Given as goal
 
 abbrev pub invariant-loop-i : goal.invariant-loop-i
