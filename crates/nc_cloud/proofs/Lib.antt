@@ -3,7 +3,9 @@ mod FanGets
 mod FanPuts
 pub mod Fans
 pub mod Images
+mod KeyOrder
 pub mod Keys
 pub mod Rounds
 mod SeatLaws
+mod SortLaws
 pub mod Served

@@ -1,7 +1,7 @@
 ghost use Rattle.std.specs.Prelude.{◌≡◌, ◌≤◌, ℕ, Some, None, IfOk, IsErrOf, is_ok};
 ghost use Rattle.nc_frame.specs.Frames.{Whole};
 ghost use Rattle.nc_cloud.specs.Contents.{Store, Rose, Settles, ChangesAt};
-ghost use Rattle.nc_cloud.specs.Cloud.{GetShows, got_after, Lists};
+ghost use Rattle.nc_cloud.specs.Cloud.{AreSorted, GetShows, got_after, Lists};
 ghost use Rattle.nc_cloud.specs.declared.cloud.CloudError.TheVariants.{Failed, Memory as NoMemory};
 
 use nc_name::{Blob, Key, Memory, Sequence};
@@ -96,6 +96,7 @@ pub trait Cloud {
     /// The keys of all objects, sorted by their texts.
     fn list(&mut self) -> Result<KeyList, CloudError>
         ensures told { tells → IfOk result (Lists (held self.old)) }
+        ensures sorted { IfOk result AreSorted }
         ensures held { held self.new ≡ held self.old }
         ensures failed { IsErrOf result Failed → Rose (slips self.old) (slips self.new) }
         ensures exact { counts_exactly → (IsErrOf result Failed → ⊥) → slips self.new ≡ slips self.old }

@@ -6,8 +6,10 @@ mod deciding;
 mod fan;
 mod fleet;
 mod seats;
+mod sorting;
 
 pub use cloud::{Cloud, CloudError, Got, KeyList};
 pub use deciding::{RoundFault, ask_round, write_round, write_row};
 pub use fan::Fanned;
 pub use fleet::{Answer, Ask, Done, Fleet, Job};
+pub use sorting::sorted_keys;

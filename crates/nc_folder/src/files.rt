@@ -1,9 +1,10 @@
-ghost use Rattle.std.specs.Prelude.{◌≡◌, IsSome, IsTrue};
+ghost use Rattle.std.specs.Prelude.{◌≡◌, IfOk, IsSome, IsTrue};
 ghost use Rattle.std.specs.IoError.{raw_os_error};
 ghost use Rattle.nc_folder.specs.declared.files.Trouble.TheVariants.{System, Memory as NoMemory};
 ghost use Rattle.nc_name.specs.Keys.{Slots};
+ghost use Rattle.nc_cloud.specs.Cloud.{AreSorted};
 
-use nc_cloud::{Got, KeyList};
+use nc_cloud::{Got, KeyList, sorted_keys};
 use nc_name::{Blob, Key, Memory, read_key};
 use std::alloc::{AllocError, AllocFailed, Global};
 use std::fs::{Metadata, OpenFile};
@@ -149,30 +150,25 @@ pub fn delete(rt: &HostRuntime, alloc: Global, folder: &str, key: &Key) -> Resul
     Ok(())
 }
 
-/// The names in a folder that are keys' texts, sorted.
-fn names_in(rt: &HostRuntime, alloc: Global, folder: &str) -> Result<Vec<String>, Trouble> {
-    let mut names = Vec::new(alloc);
+/// The keys whose texts are names in a folder. A name that is no key's is passed over.
+fn keys_in(rt: &HostRuntime, alloc: Global, folder: &str) -> Result<Vec<Key>, Trouble> {
+    let mut keys = Vec::new(alloc);
     for entry in fs::read_dir(rt, folder)? {
         let entry = entry?;
-        if read_key(entry.file_name()).is_some() {
-            names.push(String::from_str(alloc, entry.file_name())?)?;
-        }
-    }
-    names.sort()?;
-    Ok(names)
-}
-
-/// The keys of all files, sorted by their texts. A name that is no key's is passed over.
-pub fn list(rt: &HostRuntime, alloc: Global, folder: &str) -> Result<KeyList, Trouble> {
-    if folder.is_empty() {
-        return Err(Trouble::System);
-    }
-    let names = names_in(rt, alloc, folder)?;
-    let mut keys = KeyList::new(alloc);
-    for name in &names {
-        if let Some(key) = read_key(name.as_str()) {
+        if let Some(key) = read_key(entry.file_name()) {
             keys.push(key)?;
         }
     }
     Ok(keys)
+}
+
+/// The keys of all files, sorted by their texts, each once.
+pub fn list(rt: &HostRuntime, alloc: Global, folder: &str) -> Result<KeyList, Trouble>
+    ensures { IfOk result AreSorted }
+{
+    if folder.is_empty() {
+        return Err(Trouble::System);
+    }
+    let keys = keys_in(rt, alloc, folder)?;
+    Ok(sorted_keys(alloc, keys)?)
 }

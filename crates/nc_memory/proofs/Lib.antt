@@ -1,5 +1,4 @@
 mod Fates
-mod KeyOrder
 mod Numbered
 mod RecordLaws
 mod Serves

@@ -52,7 +52,7 @@ puts_event [] = []
 puts_event (step ∷ steps) = Puts (step ∷ steps) ∷ []
 
 -- each get is answered by its number, and recorded
-pub record Reads (old new : MemFleet) (asks left : List Ask) : Type 0 where
+pub record Gives (old new : MemFleet) (asks left : List Ask) : Type 0 where
   pub answers : left ≡ answered_asks (refusals_of old) (entries_of old) (log_of old) asks
   pub log : log_of new ≡ log_of old ++ gets_event (map look_of left)
   pub refusals : refusals_of new ≡ refusals_of old
@@ -62,10 +62,10 @@ pub record Reads (old new : MemFleet) (asks left : List Ask) : Type 0 where
 -- a round of gets: either no memory was found and nothing happened, or each was served
 pub data ServesGets (old new : MemFleet) (asks left : List Ask) : Type 0 where
   starved : left ≡ map starved_ask asks → Unchanged old new → ServesGets old new asks left
-  served : Reads old new asks left → ServesGets old new asks left
+  served : Gives old new asks left → ServesGets old new asks left
 
 -- each put is answered by its number, and recorded
-pub record Writes (old new : MemFleet) (jobs left : List Job) : Type 0 where
+pub record Takes (old new : MemFleet) (jobs left : List Job) : Type 0 where
   pub answers : left ≡ done_jobs (refusals_of old) (entries_of old) jobs
   pub log : log_of new ≡ log_of old ++ puts_event (steps_of (refusals_of old) (entries_of old) jobs)
   pub refusals : refusals_of new ≡ refusals_of old
@@ -75,4 +75,4 @@ pub record Writes (old new : MemFleet) (jobs left : List Job) : Type 0 where
 -- a round of puts: either no memory was found and nothing happened, or each was served
 pub data ServesPuts (old new : MemFleet) (jobs left : List Job) : Type 0 where
   starved : left ≡ map starved_job jobs → Unchanged old new → ServesPuts old new jobs left
-  served : Writes old new jobs left → ServesPuts old new jobs left
+  served : Takes old new jobs left → ServesPuts old new jobs left

@@ -71,6 +71,30 @@ fn a_broken_delete_leaves_an_empty_object(rt: HostRuntime) -> Result<(), Fail> {
     Ok(())
 }
 
+/// What a cloud holds after a put of 58 bytes, and one of 59 that was told to fail so.
+fn left_by(alloc: Global, key: &Key, outcome: Torn) -> Result<Got, Fail>
+    requires { Slots key.now }
+{
+    let mut cloud = MemCloud::new(alloc);
+    cloud.refuse(2, outcome)?;
+    put(alloc, &mut cloud, key)?;
+    let bytes = seal(alloc, 0, 4, key, &[5, 6, 7])?;
+    match cloud.put(key, bytes.bytes()) {
+        Err(CloudError::Failed) => Ok(cloud.get(key, 59)?),
+        _ => Ok(Got::Long),
+    }
+}
+
+#[test]
+fn a_refused_put_fails_and_leaves_what_was_told(rt: HostRuntime) -> Result<(), Fail> {
+    let key = meta(Name::read("a")?);
+    for (outcome, len) in [(Torn::Old, 58), (Torn::New, 59), (Torn::Broken, 58)] {
+        assert!(rt; gave(&left_by(rt.alloc(), &key, outcome)?, len));
+    }
+    assert!(rt; matches!(left_by(rt.alloc(), &key, Torn::Gone)?, Got::Absent));
+    Ok(())
+}
+
 /// Two clouds, the first of which fails at its first call.
 fn two(alloc: Global) -> Result<Vec<MemCloud>, Memory>
     ensures { IfOk result (λ clouds. length clouds.items ≡ 2) }

@@ -7,7 +7,6 @@ mod mem_cloud;
 mod memory;
 mod record;
 mod serving;
-mod sorting;
 mod store;
 #[cfg(test)]
 mod tests;

@@ -1,15 +1,14 @@
 ghost use Rattle.std.specs.Prelude.{◌≡◌, ◌≤◌, ◌+◌, ◌++◌, ◌∷◌, [], ℕ, Some, None, IsSome, IfOk, OnOk, OnErr, Ok, Err, IsOk, IsErr, IsErrOf, is_ok};
 ghost use Rattle.nc_frame.specs.Frames.{Whole};
 ghost use Rattle.nc_cloud.specs.Contents.{ChangesAt, Rose, Settles};
-ghost use Rattle.nc_cloud.specs.Cloud.{GetShows, got_after, Lists};
+ghost use Rattle.nc_cloud.specs.Cloud.{AreSorted, GetShows, got_after, Lists};
 ghost use Rattle.nc_memory.specs.Record.{counted, left, refused_at};
-ghost use Rattle.nc_memory.specs.Store.{deleted, stored};
+ghost use Rattle.nc_memory.specs.Store.{deleted, stored, TakesNoMemory};
 ghost use Rattle.nc_memory.specs.MemCloud.{calls_of, chunk_gets_of, faults_of, refusals_of, slips_of, stored_of};
 ghost use Rattle.nc_cloud.specs.declared.cloud.CloudError.TheVariants.{Failed, Memory as NoMemory};
 
 use crate::record::{Refusal, Torn, refusal_of};
-use crate::sorting::keys_of;
-use crate::store::{Object, bytes_of, empty, place, remove};
+use crate::store::{Object, bytes_of, empty, keys_of, place, remove};
 use nc_cloud::{Cloud, CloudError, Got, KeyList};
 use nc_name::{Blob, Key, Memory};
 use std::alloc::Global;
@@ -59,6 +58,7 @@ fn put_by(
 ) -> Result<(), Memory>
     ensures ok { OnOk result (ChangesAt key.now (λ old now. now ≡ left refused bytes.now old) (stored objects.old.items) (stored objects.new.items)) }
     ensures err { OnErr result (objects.new.items ≡ objects.old.items) }
+    ensures sure { TakesNoMemory refused → IsOk result }
 {
     match refused {
         None | Some(Torn::New) => place(objects, key, Blob::from_slice(alloc, bytes)?),
@@ -178,6 +178,7 @@ impl Cloud for MemCloud {
         ensures slips { slips_of self.new ≡ slips_of self.old }
         ensures gets { chunk_gets_of self.new ≡ chunk_gets_of self.old }
         ensures refused { IsSome (refused_at (refusals_of self.old) (calls_of self.old + 1)) → IsErr result }
+        ensures sure { TakesNoMemory (refused_at (refusals_of self.old) (calls_of self.old + 1)) → result ≡ Err Failed }
         ensures spared { refused_at (refusals_of self.old) (calls_of self.old + 1) ≡ None → IsErrOf result Failed → ⊥ }
         ensures left { (IsErrOf result NoMemory → ⊥) → ChangesAt key.now (λ old now. now ≡ left (refused_at (refusals_of self.old) (calls_of self.old + 1)) bytes.now old) (stored_of self.old) (stored_of self.new) }
         ensures starved { IsErrOf result NoMemory → stored_of self.new ≡ stored_of self.old }
@@ -218,6 +219,7 @@ impl Cloud for MemCloud {
 
     fn list(&mut self) -> Result<KeyList, CloudError>
         ensures told { IfOk result (Lists (stored_of self.old)) }
+        ensures sorted { IfOk result AreSorted }
         ensures held { stored_of self.new ≡ stored_of self.old }
         ensures failed { IsErrOf result Failed → Rose (slips_of self.old) (slips_of self.new) }
         ensures exact { (IsErrOf result Failed → ⊥) → slips_of self.new ≡ slips_of self.old }

@@ -5,7 +5,7 @@ ghost use Rattle.nc_cloud.specs.Contents.{Rose, Leaves, Grows, nothing};
 ghost use Rattle.nc_cloud.specs.Fleet.{asked, chunks_got, got_count, writes, touches, Answers};
 ghost use Rattle.nc_cloud.specs.declared.fleet.Answer.TheVariants.{Waiting as Unanswered, Failed as NoAnswer};
 ghost use Rattle.nc_cloud.specs.declared.fleet.Done.TheVariants.{Waiting, Failed};
-ghost use Rattle.nc_memory.specs.Memory.{chunk_gets_of, contents_of, entries_of, faults_of, gets_event, log_of, puts_event, refusals_of, width_of, Reads, ServesGets, ServesPuts, Writes, Unchanged};
+ghost use Rattle.nc_memory.specs.Memory.{chunk_gets_of, contents_of, entries_of, faults_of, gets_event, log_of, puts_event, refusals_of, width_of, Gives, ServesGets, ServesPuts, Takes, Unchanged};
 
 use crate::record::{Event, LookList, Refusal, StepList, Torn, gifts_in, object_in};
 use crate::serving::{answer_all, looks_of, mark, plan_puts, starve_asks, starve_jobs};
@@ -141,7 +141,7 @@ impl MemFleet {
     /// Answers the gets of a round and records them.
     fn give(&mut self, asks: &mut [Ask]) -> Result<(), Memory>
         ensures asked { map asked asks.new ≡ map asked asks.old }
-        ensures ok { OnOk result (Reads self.old self.new asks.old asks.new) }
+        ensures ok { OnOk result (Gives self.old self.new asks.old asks.new) }
         ensures err { OnErr result (Unchanged self.old self.new) }
     {
         answer_all(self.alloc, &self.log, &self.refusals, self.entries, asks)?;
@@ -153,7 +153,7 @@ impl MemFleet {
 
     /// Records the puts of a round and answers them.
     fn take(&mut self, jobs: &mut [Job]) -> Result<(), Memory>
-        ensures ok { OnOk result (Writes self.old self.new jobs.old jobs.new) }
+        ensures ok { OnOk result (Takes self.old self.new jobs.old jobs.new) }
         ensures err { OnErr result ((jobs.new ≡ jobs.old) × Unchanged self.old self.new) }
     {
         let steps = plan_puts(self.alloc, &self.refusals, self.entries, jobs)?;

@@ -1,7 +1,9 @@
-ghost use Rattle.std.specs.Prelude.{◌≡◌, ◌≢◌, Some, None, All, MatchOption, OnOk, OnErr, option_map, []};
+ghost use Rattle.std.specs.Prelude.{◌≡◌, ◌≢◌, Some, None, All, IfOk, MatchOption, OnOk, OnErr, map, option_map, []};
 ghost use Rattle.nc_cloud.specs.Contents.{ChangesAt};
+ghost use Rattle.nc_cloud.specs.Cloud.{Lists};
 ghost use Rattle.nc_memory.specs.Store.{stored, Found};
 
+use nc_cloud::{KeyList, sorted_keys};
 use nc_name::{Blob, Key, Memory};
 use std::alloc::Global;
 
@@ -32,6 +34,24 @@ pub(crate) fn bytes_of<'a>(objects: &'a [Object], key: &Key) -> Option<&'a [u8]>
         None => None,
         Some(i) => Some(objects[i].bytes.bytes()),
     }
+}
+
+/// The keys of all objects, in no order.
+fn keys_in(alloc: Global, objects: &[Object]) -> Result<Vec<Key>, Memory>
+    ensures { IfOk result (λ keys. keys.items ≡ map (λ o. o.key) objects.now) }
+{
+    let mut keys = Vec::new(alloc);
+    for object in objects {
+        keys.push(object.key)?;
+    }
+    Ok(keys)
+}
+
+/// The keys of all objects, sorted by their texts.
+pub(crate) fn keys_of(alloc: Global, objects: &[Object]) -> Result<KeyList, Memory>
+    ensures { IfOk result (Lists (stored objects.now)) }
+{
+    sorted_keys(alloc, keys_in(alloc, objects)?)
 }
 
 /// Puts bytes under a key.

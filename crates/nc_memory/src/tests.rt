@@ -98,11 +98,16 @@ fn a_put_is_read_back(rt: HostRuntime) -> Result<(), Fail> {
 #[test]
 fn a_refused_put_leaves_what_was_told(rt: HostRuntime) -> Result<(), Fail> {
     let key = chunk(Name::read("a")?);
-    assert_eq!(rt; len_after(rt.alloc(), &key, Torn::Old)?, Some(58));
-    assert_eq!(rt; len_after(rt.alloc(), &key, Torn::New)?, Some(59));
-    assert_eq!(rt; len_after(rt.alloc(), &key, Torn::Gone)?, None);
-    // 59 bytes without the last
-    assert_eq!(rt; len_after(rt.alloc(), &key, Torn::Broken)?, Some(58));
+    let cases = [
+        (Torn::Old, Some(58)),
+        (Torn::New, Some(59)),
+        (Torn::Gone, None),
+        // 59 bytes without the last
+        (Torn::Broken, Some(58)),
+    ];
+    for (outcome, left) in cases {
+        assert_eq!(rt; len_after(rt.alloc(), &key, outcome)?, left);
+    }
     Ok(())
 }
 

@@ -1,8 +1,8 @@
 use Rattle.std.proofs.Common.{sym, ◌∙◌, subst}
 use Rattle.nc_bytes.specs.Bytes.{AreBytes}
-use Rattle.nc_memory.proofs.KeyOrder.{text_order}
-use Rattle.nc_memory.proofs.SortLaws.{order_same}
-use Rattle.nc_memory.proofs.sorting.key_cmp.Goals as goal
+use Rattle.nc_cloud.proofs.KeyOrder.{text_order}
+use Rattle.nc_cloud.proofs.SortLaws.{order_same}
+use Rattle.nc_cloud.proofs.sorting.key_cmp.Goals as goal
 
 pub returns-clause-order : goal.returns-clause-order
 returns-clause-order c =

@@ -11,7 +11,7 @@ use Rattle.nc_bytes.specs.Bytes.{AreBytes}
 use Rattle.nc_name.specs.declared.key.Key.{Key}
 use Rattle.nc_name.specs.declared.key.Key.TheVariants.{Meta, Chunk}
 use Rattle.nc_name.specs.Keys.{key_text, name_of}
-use Rattle.nc_memory.specs.Store.{key_order}
+use Rattle.nc_cloud.specs.Cloud.{key_order}
 
 -- ---- numbers
 
