@@ -1,4 +1,4 @@
-ghost use Rattle.std.specs.Prelude.{◌≡◌, ◌≤◌, [], ◌∷◌, ◌++◌, OnOk, OnErr, insert, length};
+ghost use Rattle.std.specs.Prelude.{◌≡◌, [], ◌∷◌, ◌++◌, OnOk, OnErr};
 
 use crate::blob::Memory;
 use std::alloc::Global;
@@ -34,18 +34,6 @@ impl<T: Drop> Sequence<T> {
         ensures err { OnErr result (self.new ≡ self.old) }
     {
         match self.list.push(item) {
-            Ok(()) => Ok(()),
-            Err(_) => Err(Memory),
-        }
-    }
-
-    /// Puts an item at a place. At `Memory` the list is as it was.
-    pub fn insert(&mut self, at: usize, item: T) -> Result<(), Memory>
-        requires { at ≤ length self.old }
-        ensures ok { OnOk result (self.new ≡ insert self.old at item) }
-        ensures err { OnErr result (self.new ≡ self.old) }
-    {
-        match self.list.insert(at, item) {
             Ok(()) => Ok(()),
             Err(_) => Err(Memory),
         }
