@@ -56,5 +56,9 @@ fold_is (x ∷ xs) start =
 pub reduced : (xs : List ℕ) → length xs ≡ 32 → fold_l bit_xor 0 xs ≡ total 32 (λ k. slice_index xs k)
 reduced xs long = fold_is xs 0 ∙ xor_zero_l (total (length xs) (λ k. slice_index xs k)) ∙ ap (λ n. total n (λ k. slice_index xs k)) long
 
+pub dot_none : (a b : List ℕ) → dot 0 a b ≡ 0
+unfolding total
+dot_none a b = refl
+
 pub dot_more : (n : ℕ) (a b : List ℕ) → dot (n + 1) a b ≡ bit_xor (dot n a b) (mul (slice_index a n) (slice_index b n))
 dot_more n a b = total_more n (λ i. mul (slice_index a i) (slice_index b i))

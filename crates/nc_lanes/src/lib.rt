@@ -2,7 +2,7 @@
 //! after the last 32 byte by byte.
 #![tactic(auto)]
 
-ghost use Rattle.std.specs.Prelude.{◌≡◌, ℕ, length, slice_index, bit_xor};
+ghost use Rattle.std.specs.Prelude.{◌≡◌, ℕ, ◌*◌, ◌≤◌, length, slice_index, bit_xor};
 ghost use Rattle.nc_gf256.specs.Field.{mul};
 ghost use Rattle.nc_gf256.specs.Rows.{dot};
 
@@ -69,14 +69,26 @@ pub fn dot(a: &[u8], b: &[u8]) -> u8
     ensures { result ≡ dot (length a.now) a.now b.now }
 {
     let blocks = a.len() / 32;
+    let mut total = dot_of_blocks(a, b, blocks);
+    for i in 32 * blocks..a.len() {
+        total = add(total, mul(a[i], b[i]));
+    }
+    total
+}
+
+/// The sum of the products of the bytes in the first blocks of 32.
+fn dot_of_blocks(a: &[u8], b: &[u8], blocks: usize) -> u8
+    requires a { 32 * blocks ≤ length a.now }
+    requires b { 32 * blocks ≤ length b.now }
+    ensures { result ≡ dot (32 * blocks) a.now b.now }
+{
+    if blocks == 0 {
+        return 0;
+    }
     let mut sums = u8x32::splat(0);
     for block in 0..blocks {
         let at = 32 * block;
         sums = sum(sums, products(load(a, at), load(b, at)));
     }
-    let mut total = sums.reduce_xor();
-    for i in 32 * blocks..a.len() {
-        total = add(total, mul(a[i], b[i]));
-    }
-    total
+    sums.reduce_xor()
 }
