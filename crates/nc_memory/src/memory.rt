@@ -39,7 +39,7 @@ fn record_gets(log: &mut Vec<Event>, looks: LookList) -> Result<(), Memory>
     ensures ok { OnOk result (log.new.items ≡ log.old.items ++ gets_event looks) }
     ensures err { OnErr result (log.new.items ≡ log.old.items) }
 {
-    if looks.is_empty() {
+    if looks.items().is_empty() {
         return Ok(());
     }
     push_event(log, Event::Gets(looks))
@@ -50,7 +50,7 @@ fn record_puts(log: &mut Vec<Event>, steps: StepList) -> Result<(), Memory>
     ensures ok { OnOk result (log.new.items ≡ log.old.items ++ puts_event steps) }
     ensures err { OnErr result (log.new.items ≡ log.old.items) }
 {
-    if steps.is_empty() {
+    if steps.items().is_empty() {
         return Ok(());
     }
     push_event(log, Event::Puts(steps))

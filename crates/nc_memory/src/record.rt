@@ -1,11 +1,9 @@
-ghost use Rattle.std.specs.Prelude.{◌≡◌, ◌&&◌, ◌↔◌, IsTrue, ◌+◌, ◌<◌, ◌++◌, ◌∷◌, [], ℕ, List, nat_eq, find, take, map, length, option_map, option_copied, IfOk, OnOk, OnErr};
+ghost use Rattle.std.specs.Prelude.{◌≡◌, ◌&&◌, ◌+◌, ◌<◌, nat_eq, find, option_map, option_copied};
 ghost use Rattle.nc_cloud.specs.Fleet.{tally};
 ghost use Rattle.nc_memory.specs.Record.{counted, gifts, step_at, left, refused_at, value_after, value, steps_of, look_of, answer_of};
 ghost use Rattle.nc_cloud.specs.Contents.{nothing};
 
-use nc_name::{Blob, Key, Memory};
-use std::alloc::Global;
-use std::marker::Model;
+use nc_name::{Blob, Key, Sequence};
 
 /// How the object of an entry that fails is left. `Broken` leaves the new bytes without their last byte.
 #[derive(Clone, Copy, Debug, PartialEq, Eq)]
@@ -42,87 +40,11 @@ pub struct Step {
     pub refused: Option<Torn>,
 }
 
-/// Gets of one round, seen as their list.
-#[derive(Debug, Drop)]
-pub struct LookList {
-    looks: Vec<Look>,
-}
+/// Gets of one round.
+pub type LookList = Sequence<Look>;
 
-impl Model for LookList {
-    ghost use Rattle.std.specs.Prelude.{List};
-    ghost use Rattle.nc_memory.specs.declared.record.Look.{Look};
-
-    ghost Value = { List Look };
-
-    ghost view = { λ l. l.looks.items };
-}
-
-impl LookList {
-    pub fn new(alloc: Global) -> LookList
-        ensures { result ≡ [] }
-    {
-        LookList {
-            looks: Vec::new(alloc),
-        }
-    }
-
-    pub fn is_empty(&self) -> bool
-        ensures { IsTrue result ↔ (self.now ≡ []) }
-    {
-        self.looks.is_empty()
-    }
-
-    pub fn push(&mut self, look: Look) -> Result<(), Memory>
-        ensures ok { OnOk result (self.new ≡ self.old ++ look ∷ []) }
-        ensures err { OnErr result (self.new ≡ self.old) }
-    {
-        match self.looks.push(look) {
-            Ok(()) => Ok(()),
-            Err(_) => Err(Memory),
-        }
-    }
-}
-
-/// Puts of one round, seen as their list.
-#[derive(Debug, Drop)]
-pub struct StepList {
-    steps: Vec<Step>,
-}
-
-impl Model for StepList {
-    ghost use Rattle.std.specs.Prelude.{List};
-    ghost use Rattle.nc_memory.specs.declared.record.Step.{Step};
-
-    ghost Value = { List Step };
-
-    ghost view = { λ s. s.steps.items };
-}
-
-impl StepList {
-    pub fn new(alloc: Global) -> StepList
-        ensures { result ≡ [] }
-    {
-        StepList {
-            steps: Vec::new(alloc),
-        }
-    }
-
-    pub fn is_empty(&self) -> bool
-        ensures { IsTrue result ↔ (self.now ≡ []) }
-    {
-        self.steps.is_empty()
-    }
-
-    pub fn push(&mut self, step: Step) -> Result<(), Memory>
-        ensures ok { OnOk result (self.new ≡ self.old ++ step ∷ []) }
-        ensures err { OnErr result (self.new ≡ self.old) }
-    {
-        match self.steps.push(step) {
-            Ok(()) => Ok(()),
-            Err(_) => Err(Memory),
-        }
-    }
-}
+/// Puts of one round.
+pub type StepList = Sequence<Step>;
 
 /// What happened to a fleet.
 #[derive(Debug, Drop)]
@@ -137,7 +59,7 @@ pub enum Event {
 pub(crate) fn step_of(steps: &StepList, cloud: u8) -> Option<&Step>
     ensures { option_copied result ≡ step_at steps.now cloud }
 {
-    steps.steps.iter().find(|s| s.cloud == cloud)
+    steps.items().iter().find(|s| s.cloud == cloud)
 }
 
 /// What an object is after a put, where it was `old` before.
@@ -211,7 +133,7 @@ fn given_by(looks: &LookList, cloud: u8) -> u64
     ensures { result ≡ counted (tally (λ l. nat_eq l.cloud cloud && l.gave_chunk) looks.now) }
 {
     let mut count: u64 = 0;
-    for look in &looks.looks {
+    for look in looks.items() {
         if look.cloud == cloud && look.gave_chunk {
             count = count.saturating_add(1);
         }
