@@ -1,11 +1,10 @@
 ghost use Rattle.std.specs.Prelude.{◌≡◌, ◌≢◌, ◌≤◌, ◌<◌, ◌+◌, ◌^◌, ◌++◌, ◌∷◌, [], ℕ, All, IfErr, IfOk, OnOk, map, true};
 ghost use Rattle.nc_name.specs.Keys.{Slots};
 ghost use Rattle.nc_meta.specs.Metas.{IsLive};
-ghost use Rattle.nc_cloud.specs.Contents.{Grows};
 ghost use Rattle.nc_cloud.specs.Fleet.{asked, Answers};
 ghost use Rattle.nc_cloud.specs.Rounds.{row as row_of};
 ghost use Rattle.nc_download.specs.Chunks.{chunk_ask, frame_len, wanted_of};
-ghost use Rattle.nc_cloud.specs.Deciding.{HasCause, IsSeen};
+ghost use Rattle.nc_cloud.specs.Deciding.{HasCause, IsSeen, OnlyLooked};
 
 use crate::judging::Wanted;
 use nc_cloud::{Answer, Ask, Fleet, RoundFault, ask_round};
@@ -65,9 +64,7 @@ pub fn ask_row<F: Fleet>(
     ensures seen { IfOk result (λ asks. All (λ a. IsSeen a.answer ≡ true) asks.items) }
     ensures cause { IfErr result (HasCause F.counts_exactly (F.faults fleet.old) (F.faults fleet.new)) }
     ensures clean { F.counts_exactly → OnOk result ((c : ℕ) → F.faults fleet.new c ≡ F.faults fleet.old c) }
-    ensures clouds { F.clouds fleet.new ≡ F.clouds fleet.old }
-    ensures held { F.held fleet.new ≡ F.held fleet.old }
-    ensures grows { Grows (F.faults fleet.old) (F.faults fleet.new) }
+    ensures looked { OnlyLooked F.Fleet fleet.old fleet.new }
 {
     let width = fleet.width() as u8;
     let Ok(mut asks) = asks_for(alloc, width, name, live, row) else {

@@ -1,10 +1,10 @@
 ghost use Rattle.std.specs.Prelude.{◌<◌, ◌≡◌, ◌≤◌, ℕ, List, IfErr, IfOk, OnOk, length};
-ghost use Rattle.nc_cloud.specs.Contents.{Grows};
 ghost use Rattle.nc_download.specs.Fetching.{Fetches, HasFetchCause, ReadsNoChunk};
 ghost use Rattle.nc_meta.specs.declared.meta.Live.{Live as LiveMeta};
 ghost use Rattle.nc_download.specs.Giving.{GivesFile, IsHeld};
 ghost use Rattle.nc_download.specs.Showing.{SeesNoFile, SeesNoMeta, ShowsFile};
 ghost use Rattle.nc_download.specs.declared.fetching.FetchFault.TheVariants.{Memory as NoMemory};
+ghost use Rattle.nc_cloud.specs.Deciding.{OnlyLooked};
 
 use crate::reading::{ReadFault, read_file};
 use crate::short::ShortList;
@@ -81,9 +81,7 @@ pub fn fetch<R: Threads + Sync, F: Fleet>(
     ensures cause { IfErr result (HasFetchCause F.counts_exactly (F.clouds fleet.old) (F.faults fleet.old) (F.faults fleet.new)) }
     ensures clean { F.counts_exactly → OnOk result ((c : ℕ) → c < F.clouds fleet.old → F.faults fleet.new c ≡ F.faults fleet.old c) }
     ensures unread { IfErr result (ReadsNoChunk (F.chunk_gets fleet.old) (F.chunk_gets fleet.new)) }
-    ensures clouds { F.clouds fleet.new ≡ F.clouds fleet.old }
-    ensures held { F.held fleet.new ≡ F.held fleet.old }
-    ensures grows { Grows (F.faults fleet.old) (F.faults fleet.new) }
+    ensures looked { OnlyLooked F.Fleet fleet.old fleet.new }
 {
     let view = look(alloc, fleet, name)?;
     let live = match shown(&view) {

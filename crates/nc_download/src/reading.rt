@@ -1,9 +1,9 @@
 ghost use Rattle.std.specs.Prelude.{◌≡◌, ◌≤◌, ℕ, List, IfErr, IfOk, OnOk, length};
 ghost use Rattle.nc_code.specs.Codes.{IsMds};
-ghost use Rattle.nc_cloud.specs.Contents.{Grows};
 ghost use Rattle.nc_meta.specs.Metas.{IsLive};
 ghost use Rattle.nc_download.specs.declared.reading.ReadFault.TheVariants.{Cloud, Memory as NoMemory};
 ghost use Rattle.nc_download.specs.Reading.{AllButTwoAreRight, ComesFrom, HasReadCause, IsFaultOf, IsNotShort, IsShort};
+ghost use Rattle.nc_cloud.specs.Deciding.{OnlyLooked};
 
 use crate::asks::ask_row;
 use crate::short::ShortList;
@@ -72,9 +72,7 @@ pub fn read_file<R: Threads + Sync, F: Fleet>(
     ensures complete { F.tells → (v : List ℕ) → length v ≡ live.now.len → AllButTwoAreRight (F.clouds fleet.old) name.now live.now v (F.held fleet.old) → IfErr result IsNotShort }
     ensures cause { IfErr result (HasReadCause F.counts_exactly (F.faults fleet.old) (F.faults fleet.new)) }
     ensures clean { F.counts_exactly → OnOk result ((c : ℕ) → F.faults fleet.new c ≡ F.faults fleet.old c) }
-    ensures clouds { F.clouds fleet.new ≡ F.clouds fleet.old }
-    ensures held { F.held fleet.new ≡ F.held fleet.old }
-    ensures grows { Grows (F.faults fleet.old) (F.faults fleet.new) }
+    ensures looked { OnlyLooked F.Fleet fleet.old fleet.new }
 {
     let width = fleet.width() as u8;
     let zeros = ask_row(alloc, fleet, name, live, 0)?;

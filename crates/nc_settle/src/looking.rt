@@ -1,9 +1,9 @@
 ghost use Rattle.std.specs.Prelude.{◌≡◌, ◌<◌, ◌≤◌, ℕ, IfOk, length, map};
-ghost use Rattle.nc_cloud.specs.Contents.{Grows};
 ghost use Rattle.nc_cloud.specs.Fleet.{asked};
 ghost use Rattle.nc_cloud.specs.Rounds.{row};
 ghost use Rattle.nc_settle.specs.Rounds.{meta_ask};
 ghost use Rattle.nc_settle.specs.Looking.{FailuresRose, FailuresRoseIn, HasMetas, HasMetasIn, HasWidth, OnlyFailuresRose, OnlyFailuresRoseIn, Sees, SeesSlot};
+ghost use Rattle.nc_cloud.specs.Deciding.{OnlyLooked};
 
 use crate::asking::{asks_for, judge_all};
 use crate::place::Place;
@@ -23,9 +23,7 @@ pub fn look<F: Fleet>(alloc: Global, fleet: &mut F, name: &Name) -> Result<View,
     ensures metas { IfOk result (HasMetas (F.clouds fleet.old)) }
     ensures failed { IfOk result (FailuresRose (F.clouds fleet.old) (F.faults fleet.old) (F.faults fleet.new)) }
     ensures exact { F.counts_exactly → IfOk result (OnlyFailuresRose (F.faults fleet.old) (F.faults fleet.new)) }
-    ensures clouds { F.clouds fleet.new ≡ F.clouds fleet.old }
-    ensures held { F.held fleet.new ≡ F.held fleet.old }
-    ensures grows { Grows (F.faults fleet.old) (F.faults fleet.new) }
+    ensures looked { OnlyLooked F.Fleet fleet.old fleet.new }
     ensures gets { (c : ℕ) → F.chunk_gets fleet.new c ≡ F.chunk_gets fleet.old c }
 {
     let width = fleet.width() as u8;
@@ -54,9 +52,7 @@ fn ask_all<F: Fleet>(
     ensures metas { IfOk result (λ places. HasMetasIn (F.clouds fleet.old) slot places.items) }
     ensures failed { IfOk result (λ places. FailuresRoseIn (F.clouds fleet.old) (F.faults fleet.old) (F.faults fleet.new) places.items) }
     ensures exact { F.counts_exactly → IfOk result (λ places. OnlyFailuresRoseIn (F.faults fleet.old) (F.faults fleet.new) places.items) }
-    ensures clouds { F.clouds fleet.new ≡ F.clouds fleet.old }
-    ensures held { F.held fleet.new ≡ F.held fleet.old }
-    ensures grows { Grows (F.faults fleet.old) (F.faults fleet.new) }
+    ensures looked { OnlyLooked F.Fleet fleet.old fleet.new }
     ensures gets { (c : ℕ) → F.chunk_gets fleet.new c ≡ F.chunk_gets fleet.old c }
 {
     let width = fleet.width() as u8;

@@ -1,6 +1,6 @@
 //! `get` of a file.
 ghost use Rattle.std.specs.Prelude.{◌≡◌, ◌≤◌};
-ghost use Rattle.nc_cloud.specs.Contents.{Grows};
+ghost use Rattle.nc_cloud.specs.Deciding.{OnlyLooked};
 ghost use Rattle.nccloud.specs.Got.{GetAnswers, GivesHeld, ReadsNoChunk};
 ghost use Rattle.nccloud.specs.Run.{CountsStream, IfVault, IsDone, IsGot, HasFaultCause, StaysClean};
 ghost use Rattle.nccloud.specs.Settings.{IsSetting};
@@ -35,9 +35,7 @@ pub fn get<R: Threads + Sync, F: Fleet, K: Sink>(
     ensures quiet { (IsDone result → ⊥) → out.new ≡ out.old }
     ensures cause { IfVault result (HasFaultCause F.counts_exactly (F.clouds fleet.old) (F.faults fleet.old) (F.faults fleet.new)) }
     ensures clean { IsDone result → StaysClean F.counts_exactly (F.clouds fleet.old) (F.faults fleet.old) (F.faults fleet.new) }
-    ensures held { F.held fleet.new ≡ F.held fleet.old }
-    ensures clouds { F.clouds fleet.new ≡ F.clouds fleet.old }
-    ensures grows { Grows (F.faults fleet.old) (F.faults fleet.new) }
+    ensures looked { OnlyLooked F.Fleet fleet.old fleet.new }
 {
     match fetch(rt, alloc, fleet, name, setting.workers) {
         Ok(file) => match send(out, file.bytes()) {

@@ -25,7 +25,7 @@ returns-in-Fails-clause-cause g c = clean _ _ c.in_ok-view.ensures.width _ _ _ c
 
 pub returns-in-Ok-read_file-clause-fetches : goal.returns-in-Ok-read_file-clause-fetches
 returns-in-Ok-read_file-clause-fetches g c told =
-    comes_back _ _ _ _ _ _ c.in_ok-view.ensures.clouds c.in_ok-view.ensures.held (shown_held _ _ _ _ c.requires.wide c.requires.narrow (c.in_ok-view.ensures.told told) c.in_ok-view.ensures.width _ c.in-Ok.ensures.shown)
+    comes_back _ _ _ _ _ _ c.in_ok-view.ensures.looked.clouds c.in_ok-view.ensures.looked.held (shown_held _ _ _ _ c.requires.wide c.requires.narrow (c.in_ok-view.ensures.told told) c.in_ok-view.ensures.width _ c.in-Ok.ensures.shown)
     c.in_default.ensures.verdict _ (c.in-Ok-read_file.ensures.comes told)
 
 pub returns-in-Ok-read_file-clause-clean : goal.returns-in-Ok-read_file-clause-clean
@@ -34,11 +34,11 @@ returns-in-Ok-read_file-clause-clean g c told d l =
 
 pub returns-in-Err-Cloud-clause-cause : goal.returns-in-Err-Cloud-clause-cause
 returns-in-Err-Cloud-clause-cause g c =
-    later_cause _ _ _ _ _ _ c.in_ok-view.ensures.grows (clean _ _ c.in_ok-view.ensures.width _ _ _ c.in_ok-view.ensures.failed c.in_ok-view.ensures.exact c.in-Ok.ensures.shown.answered) (subst (λ (f : ReadFault). HasReadCause g.F.Fleet.counts_exactly (g.F.Fleet.faults c.look.new.fleet) (g.F.Fleet.faults c.read_file.new.fleet) f) c.in-Err-Cloud.field-0-is c.in-Err-Cloud.ensures.cause)
+    later_cause _ _ _ _ _ _ c.in_ok-view.ensures.looked.grows (clean _ _ c.in_ok-view.ensures.width _ _ _ c.in_ok-view.ensures.failed c.in_ok-view.ensures.exact c.in-Ok.ensures.shown.answered) (subst (λ (f : ReadFault). HasReadCause g.F.Fleet.counts_exactly (g.F.Fleet.faults c.look.new.fleet) (g.F.Fleet.faults c.read_file.new.fleet) f) c.in-Err-Cloud.field-0-is c.in-Err-Cloud.ensures.cause)
 
 pub returns-in-Err-Short-clause-fetches : goal.returns-in-Err-Short-clause-fetches
 returns-in-Err-Short-clause-fetches g c told =
-    short_of _ _ _ _ _ _ c.in_ok-view.ensures.clouds c.in_ok-view.ensures.held (shown_held _ _ _ _ c.requires.wide c.requires.narrow (c.in_ok-view.ensures.told told) c.in_ok-view.ensures.width _ c.in-Ok.ensures.shown)
+    short_of _ _ _ _ _ _ c.in_ok-view.ensures.looked.clouds c.in_ok-view.ensures.looked.held (shown_held _ _ _ _ c.requires.wide c.requires.narrow (c.in_ok-view.ensures.told told) c.in_ok-view.ensures.width _ c.in-Ok.ensures.shown)
     c.in_default.ensures.verdict _ (subst (λ (f : ReadFault). IsShort (g.F.Fleet.clouds c.look.new.fleet) c.args.name.now c.in-Ok.live (g.F.Fleet.held c.look.new.fleet) f) c.in-Err-Short.field-0-is (c.in-Err-Short.ensures.short told))
 
 pub returns-in-Err-Short-clause-cause : goal.returns-in-Err-Short-clause-cause

@@ -7,7 +7,7 @@ use Rattle.nc_download.proofs.reading.read_file.Goals as goal
 pub returns-then-len-from-clause-short : goal.returns-then-len-from-clause-short
 returns-then-len-from-clause-short g c tells =
     too_many _ _ _ _ _ _
-    (all_sorted _ _ _ _ _ _ _ _ _ _ c.width-width.ensures c.ask_row.ensures.held c.in_ok-pieces.ensures.order c.in_ok-pieces.ensures.told (c.in_ok-zeros.ensures.told tells) (c.in_ok-ones.ensures.told tells))
+    (all_sorted _ _ _ _ _ _ _ _ _ _ c.width-width.ensures c.ask_row.ensures.looked.held c.in_ok-pieces.ensures.order c.in_ok-pieces.ensures.told (c.in_ok-zeros.ensures.told tells) (c.in_ok-ones.ensures.told tells))
     (omega (arith, c.if-len-from.true, c.len.ensures, c.from.ensures, c.width-width.ensures, c.in_ok-pieces.field-0.pieces.ok))
 
 pub returns-then-len-from-clause-complete : goal.returns-then-len-from-clause-complete
@@ -15,7 +15,7 @@ returns-then-len-from-clause-complete g c tells v long all = few_bad _ _ _ v _ l
 
 pub returns-clause-comes : goal.returns-clause-comes
 returns-clause-comes g c tells =
-    let all = all_sorted _ _ _ _ _ _ _ _ _ _ c.width-width.ensures c.ask_row.ensures.held c.in_ok-pieces.ensures.order c.in_ok-pieces.ensures.told (c.in_ok-zeros.ensures.told tells) (c.in_ok-ones.ensures.told tells) in
+    let all = all_sorted _ _ _ _ _ _ _ _ _ _ c.width-width.ensures c.ask_row.ensures.looked.held c.in_ok-pieces.ensures.order c.in_ok-pieces.ensures.told (c.in_ok-zeros.ensures.told tells) (c.in_ok-ones.ensures.told tells) in
     record {
       clouds = _;
       first = first_good _ _ _ _ _ _ all (omega (arith, c.requires.wide)) (omega (arith, c.if-len-from.false, c.len.ensures, c.from.ensures, c.width-width.ensures, c.in_ok-pieces.field-0.pieces.ok));

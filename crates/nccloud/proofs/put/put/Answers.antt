@@ -28,7 +28,7 @@ returns-in-Err-clause-cause g c = refused_cause _ _ c.in_ok-view.ensures.width _
 pub returns-in-Err-first_code-clause-fault : goal.returns-in-Err-first_code-clause-fault
 returns-in-Err-first_code-clause-fault g c =
     let n : ℕ = g.F.Fleet.clouds c.args.fleet.now in
-    let none : HasNoCode n c.args.setting.now c.args.name.now = subst (λ k. HasNoCode k c.args.setting.now c.args.name.now) (c.width.ensures ∙ c.look.ensures.clouds) c.in-Err-first_code.ensures.spent.1 in
+    let none : HasNoCode n c.args.setting.now c.args.name.now = subst (λ k. HasNoCode k c.args.setting.now c.args.name.now) (c.width.ensures ∙ c.look.ensures.looked.clouds) c.in-Err-first_code.ensures.spent.1 in
     subst (λ (fault : Fault). IsPutFault n c.args.setting.now c.args.name.now fault) (sym c.in-Err-first_code.ensures.spent.0) (refl, none)
 
 pub returns-in-Err-first_code-clause-refused : goal.returns-in-Err-first_code-clause-refused
@@ -70,37 +70,37 @@ returns-clause-kept g c told taken =
 -- and a code was found
 pub returns-in-Ok-write_all-clause-spent : goal.returns-in-Ok-write_all-clause-spent
 returns-in-Ok-write_all-clause-spent g c none =
-    absurd (not_both _ _ _ _ (subst (λ k. IsFirstCode k c.args.setting.now c.args.name.now c.in-Ok-first_code.good) (c.width.ensures ∙ c.look.ensures.clouds) c.in-Ok-first_code.ensures.found) none)
+    absurd (not_both _ _ _ _ (subst (λ k. IsFirstCode k c.args.setting.now c.args.name.now c.in-Ok-first_code.good) (c.width.ensures ∙ c.look.ensures.looked.clouds) c.in-Ok-first_code.ensures.found) none)
 
 pub returns-in-Err-Cloud-clause-spent : goal.returns-in-Err-Cloud-clause-spent
 returns-in-Err-Cloud-clause-spent g c none =
-    absurd (not_both _ _ _ _ (subst (λ k. IsFirstCode k c.args.setting.now c.args.name.now c.in-Ok-first_code.good) (c.width.ensures ∙ c.look.ensures.clouds) c.in-Ok-first_code.ensures.found) none)
+    absurd (not_both _ _ _ _ (subst (λ k. IsFirstCode k c.args.setting.now c.args.name.now c.in-Ok-first_code.good) (c.width.ensures ∙ c.look.ensures.looked.clouds) c.in-Ok-first_code.ensures.found) none)
 
 pub returns-clause-spent : goal.returns-clause-spent
 returns-clause-spent g c none =
-    absurd (not_both _ _ _ _ (subst (λ k. IsFirstCode k c.args.setting.now c.args.name.now c.in-Ok-first_code.good) (c.width.ensures ∙ c.look.ensures.clouds) c.in-Ok-first_code.ensures.found) none)
+    absurd (not_both _ _ _ _ (subst (λ k. IsFirstCode k c.args.setting.now c.args.name.now c.in-Ok-first_code.good) (c.width.ensures ∙ c.look.ensures.looked.clouds) c.in-Ok-first_code.ensures.found) none)
 
 -- what is held after the look is what was held
 pub returns-in-Err-Cloud-clause-only : goal.returns-in-Err-Cloud-clause-only
 returns-in-Err-Cloud-clause-only g c told =
-    subst (λ F. ChangesOnlyName c.args.name.now F (g.F.Fleet.held c.write_all.new.fleet)) c.look.ensures.held
+    subst (λ F. ChangesOnlyName c.args.name.now F (g.F.Fleet.held c.write_all.new.fleet)) c.look.ensures.looked.held
     (c.write_all.ensures.only told _ _ _ (widened _ _ _ _ _ _ _ _ (width_is _ _ _ _ c.in-Ok-first_code.ensures.found ∙ c.width.ensures) c.in_ok-first.ensures))
 
 pub returns-in-Ok-write_all-clause-only : goal.returns-in-Ok-write_all-clause-only
 returns-in-Ok-write_all-clause-only g c told =
-    subst (λ F. ChangesOnlyName c.args.name.now F (g.F.Fleet.held c.write_all.new.fleet)) c.look.ensures.held
+    subst (λ F. ChangesOnlyName c.args.name.now F (g.F.Fleet.held c.write_all.new.fleet)) c.look.ensures.looked.held
     (c.write_all.ensures.only told _ _ _ (widened _ _ _ _ _ _ _ _ (width_is _ _ _ _ c.in-Ok-first_code.ensures.found ∙ c.width.ensures) c.in_ok-first.ensures))
 
 pub returns-clause-only : goal.returns-clause-only
 returns-clause-only g c told =
-    subst (λ F. ChangesOnlyName c.args.name.now F (g.F.Fleet.held c.write_all.new.fleet)) c.look.ensures.held
+    subst (λ F. ChangesOnlyName c.args.name.now F (g.F.Fleet.held c.write_all.new.fleet)) c.look.ensures.looked.held
     (c.write_all.ensures.only told _ _ _ (widened _ _ _ _ _ _ _ _ (width_is _ _ _ _ c.in-Ok-first_code.ensures.found ∙ c.width.ensures) c.in_ok-first.ensures))
 
 -- the look has changed no count, since no place failed
 pub returns-in-Err-Cloud-clause-cause : goal.returns-in-Err-Cloud-clause-cause
 returns-in-Err-Cloud-clause-cause g c =
     later_cause (g.F.Fleet.clouds c.args.fleet.now) g.F.Fleet.counts_exactly (g.F.Fleet.faults c.args.fleet.now) (g.F.Fleet.faults c.look.new.fleet) (g.F.Fleet.faults c.write_all.new.fleet) c.in-Err-Cloud.cloud
-    c.look.ensures.grows (clean _ _ c.in_ok-view.ensures.width _ _ _ c.in_ok-view.ensures.failed c.in_ok-view.ensures.exact c.in-Ok.ensures.free.answered)
+    c.look.ensures.looked.grows (clean _ _ c.in_ok-view.ensures.width _ _ _ c.in_ok-view.ensures.failed c.in_ok-view.ensures.exact c.in-Ok.ensures.free.answered)
     (subst (λ (fault : RoundFault). HasCause g.F.Fleet.counts_exactly (g.F.Fleet.faults c.look.new.fleet) (g.F.Fleet.faults c.write_all.new.fleet) fault) c.in-Err-Cloud.field-0-is c.in-Err-Cloud.ensures.cause)
 
 pub returns-in-Ok-write_all-clause-clean : goal.returns-in-Ok-write_all-clause-clean
@@ -112,10 +112,10 @@ pub returns-in-Ok-write_all-clause-stored : goal.returns-in-Ok-write_all-clause-
 returns-in-Ok-write_all-clause-stored g c told =
     let n : ℕ = g.F.Fleet.clouds c.args.fleet.now in
     let good = c.in-Ok-first_code.good in
-    let drawn : IsFirstCode n c.args.setting.now c.args.name.now good = subst (λ k. IsFirstCode k c.args.setting.now c.args.name.now good) (c.width.ensures ∙ c.look.ensures.clouds) c.in-Ok-first_code.ensures.found in
+    let drawn : IsFirstCode n c.args.setting.now c.args.name.now good = subst (λ k. IsFirstCode k c.args.setting.now c.args.name.now good) (c.width.ensures ∙ c.look.ensures.looked.clouds) c.in-Ok-first_code.ensures.found in
     let stores : Stores n good c.args.name.now c.args.bytes (g.F.Fleet.held c.args.fleet.now) (g.F.Fleet.held c.write_all.new.fleet) =
-    subst (λ k. Stores k good c.args.name.now c.args.bytes (g.F.Fleet.held c.args.fleet.now) (g.F.Fleet.held c.write_all.new.fleet)) c.look.ensures.clouds
-    (subst (λ F. Stores (g.F.Fleet.clouds c.look.new.fleet) good c.args.name.now c.args.bytes F (g.F.Fleet.held c.write_all.new.fleet)) c.look.ensures.held
+    subst (λ k. Stores k good c.args.name.now c.args.bytes (g.F.Fleet.held c.args.fleet.now) (g.F.Fleet.held c.write_all.new.fleet)) c.look.ensures.looked.clouds
+    (subst (λ F. Stores (g.F.Fleet.clouds c.look.new.fleet) good c.args.name.now c.args.bytes F (g.F.Fleet.held c.write_all.new.fleet)) c.look.ensures.looked.held
     (c.in-Ok-write_all.ensures.stored told _ _ _ (widened _ _ _ _ _ _ _ _ (width_is _ _ _ _ c.in-Ok-first_code.ensures.found ∙ c.width.ensures) c.in_ok-first.ensures))) in
     record {
       good = good;
