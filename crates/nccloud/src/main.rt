@@ -5,26 +5,16 @@ mod drawing;
 mod edges;
 #[cfg(test)]
 mod edges_tests;
-#[cfg(test)]
-mod fixtures;
-#[cfg(test)]
-mod folder_tests;
 mod get;
-#[cfg(test)]
-mod get_tests;
 mod marks;
-#[cfg(test)]
-mod planted_tests;
 mod prepare;
 mod put;
-#[cfg(test)]
-mod put_tests;
 mod run;
+#[cfg(test)]
+mod scenes;
 mod sealing;
 mod setting;
 mod status;
-#[cfg(test)]
-mod word_tests;
 mod words;
 
 use crate::edges::{after_first, ending, folders};

@@ -1,6 +1,0 @@
-use Rattle.std.proofs.Common.{◌≡◌}
-use Rattle.nc_memory.specs.Memory.{width_of}
-use Rattle.nccloud.proofs.planted_tests.planted.Given as goal
-
-abbrev pub invariant-loop-cloud : goal.invariant-loop-cloud
-invariant-loop-cloud l = width_of l.fleet ≡ 4

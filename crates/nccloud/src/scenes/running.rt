@@ -1,0 +1,205 @@
+//! One run of the program over any clouds.
+ghost use Rattle.std.specs.Prelude.{◌≤◌, ◌^◌, length};
+
+use crate::put::put;
+use crate::run::run;
+use crate::scenes::script::Next;
+use crate::setting::Setting;
+use crate::status::{Fault, Status};
+use nc_cloud::Fleet;
+use nc_download::{Bad, Why};
+use nc_name::{Blob, Name};
+use nc_stream::{LIMIT, MemSink, MemSource};
+use std::alloc::Global;
+use std::test::Fail;
+use std::thread::Threads;
+
+/// More bytes than a scene has.
+const MANY: usize = 134_217_728;
+
+/// How a run is made, beside its words.
+#[derive(Drop)]
+pub struct Setup {
+    input: Vec<u8>,
+    reads_up_to: usize,
+    failing_read: Option<u64>,
+    writes_up_to: usize,
+    failing_write: Option<u64>,
+}
+
+/// How a run ended: the exit code and the status, its output, and the input as the run left it.
+#[derive(Drop)]
+pub struct Outcome {
+    pub answer: String,
+    pub output: MemSink,
+    pub input: MemSource,
+}
+
+impl Setup {
+    /// No input, and nothing that fails.
+    pub fn new(alloc: Global) -> Setup {
+        Setup {
+            input: Vec::new(alloc),
+            reads_up_to: MANY,
+            failing_read: None,
+            writes_up_to: MANY,
+            failing_write: None,
+        }
+    }
+
+    /// This input, and nothing that fails.
+    pub fn with_input(alloc: Global, bytes: &[u8]) -> Result<Setup, Fail> {
+        let mut setup = Setup::new(alloc);
+        setup.input.extend_from_slice(bytes)?;
+        Ok(setup)
+    }
+
+    /// Sets one thing.
+    pub fn set(&mut self, alloc: Global, next: &Next) -> Result<(), Fail> {
+        match next {
+            Next::Input(bytes) => self.input = bytes.all(alloc)?,
+            Next::ReadsUpTo(most) => self.reads_up_to = *most,
+            Next::ReadFails(nth) => self.failing_read = Some(*nth),
+            Next::WritesUpTo(most) => self.writes_up_to = *most,
+            Next::WriteFails(nth) => self.failing_write = Some(*nth),
+        }
+        Ok(())
+    }
+
+    fn source(&self, alloc: Global) -> Result<MemSource, Fail> {
+        let bytes = Blob::from_slice(alloc, self.input.as_slice())?;
+        let mut source = MemSource::new(alloc, bytes, self.reads_up_to.max(1));
+        if let Some(nth) = self.failing_read {
+            source.refuse(nth)?;
+        }
+        Ok(source)
+    }
+
+    fn sink(&self, alloc: Global) -> Result<MemSink, Fail> {
+        let mut sink = MemSink::new(alloc, self.writes_up_to.max(1));
+        if let Some(nth) = self.failing_write {
+            sink.refuse(nth)?;
+        }
+        Ok(sink)
+    }
+
+    /// Runs these words so.
+    pub fn run<R: Threads + Sync + AllocGlobal, F: Fleet>(
+        &self,
+        rt: &R,
+        fleet: &mut F,
+        words: &str,
+    ) -> Result<Outcome, Fail>
+        requires ready { F.ready }
+    {
+        let alloc = rt.alloc();
+        let words = split(alloc, words)?;
+        let mut input = self.source(alloc)?;
+        let mut output = self.sink(alloc)?;
+        let mut err = MemSink::new(alloc, MANY);
+        let status = run(
+            rt,
+            alloc,
+            words.as_slice(),
+            fleet,
+            &mut input,
+            &mut output,
+            &mut err,
+        );
+        Ok(Outcome {
+            answer: answer_of(alloc, &status)?,
+            output,
+            input,
+        })
+    }
+
+    /// Puts the input, of at most 64 MiB, under a name over 4 to 10 clouds, and looks at so many candidates for a code, 1 to
+    /// 4096.
+    pub fn put_within<R: Threads + Sync + AllocGlobal, F: Fleet>(
+        &self,
+        rt: &R,
+        fleet: &mut F,
+        budget: u16,
+        name: &str,
+    ) -> Result<String, Fail>
+        requires ready { F.ready }
+    {
+        let width = fleet.width();
+        let bytes = self.input.as_slice();
+        if width < 4 || 10 < width {
+            return Err(Fail::new("no put over so many clouds"));
+        }
+        if budget < 1 || 4096 < budget {
+            return Err(Fail::new("no put within such a budget"));
+        }
+        if LIMIT < bytes.len() {
+            return Err(Fail::new("no put of so many bytes"));
+        }
+        let name = Name::read(name)?;
+        let status = put_status(rt, fleet, budget, &name, bytes)?;
+        answer_of(rt.alloc(), &status)
+    }
+}
+
+/// How a put that looks at so many candidates ends.
+fn put_status<R: Threads + Sync + AllocGlobal, F: Fleet>(
+    rt: &R,
+    fleet: &mut F,
+    budget: u16,
+    name: &Name,
+    bytes: &[u8],
+) -> Result<Status, Fail>
+    requires ready { F.ready }
+    requires wide { 4 ≤ F.clouds fleet.old }
+    requires narrow { F.clouds fleet.old ≤ 10 }
+    requires some { 1 ≤ budget }
+    requires most { budget ≤ 4096 }
+    requires short { length bytes.now ≤ 2 ^ 26 }
+{
+    let alloc = rt.alloc();
+    let setting = Setting {
+        seed: [0; 32],
+        budget,
+        workers: 1,
+    };
+    let bytes = Blob::from_slice(alloc, bytes)?;
+    match put(rt, alloc, fleet, &setting, name, bytes) {
+        Ok(()) => Ok(Status::Ok),
+        Err(fault) => Ok(Status::Vault(fault)),
+    }
+}
+
+/// The words, split at single spaces. The empty text has none.
+fn split(alloc: Global, words: &str) -> Result<Vec<String>, Fail> {
+    let mut all = Vec::new(alloc);
+    if !words.is_empty() {
+        for word in words.split(' ') {
+            all.push(String::from_str(alloc, word)?)?;
+        }
+    }
+    Ok(all)
+}
+
+/// The exit code and the status; of a status Short the clouds that it lists, each with its cause.
+fn answer_of(alloc: Global, status: &Status) -> Result<String, Fail> {
+    let code = status.code();
+    match status {
+        Status::Vault(Fault::Short(list)) => short_answer(alloc, code, list.items()),
+        _ => Ok(format!(in alloc; "{code} {status:?}")?),
+    }
+}
+
+fn short_answer(alloc: Global, code: u8, bads: &[Bad]) -> Result<String, Fail> {
+    let mut answer = format!(in alloc; "{code} Short")?;
+    let mut mark = ':';
+    for bad in bads {
+        let cloud = bad.cloud;
+        let cause = match bad.why {
+            Why::Failed => format!(in alloc; "failed")?,
+            Why::Row { row, how } => format!(in alloc; "row {row} {how:?}")?,
+        };
+        answer.push_str(format!(in alloc; "{mark} {cloud} {cause}")?.as_str())?;
+        mark = ',';
+    }
+    Ok(answer)
+}
