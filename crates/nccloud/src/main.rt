@@ -6,6 +6,8 @@ mod edges;
 #[cfg(test)]
 mod edges_tests;
 mod get;
+#[cfg(test)]
+mod look_tests;
 mod marks;
 mod prepare;
 mod put;
