@@ -87,7 +87,7 @@ fn left_by(alloc: Global, key: &Key, outcome: Torn) -> Result<Got, Fail>
 
 #[test]
 fn a_refused_put_fails_and_leaves_what_was_told(rt: HostRuntime) -> Result<(), Fail> {
-    let key = meta(Name::read("a")?);
+    let key = chunk(Name::read("a")?, 0);
     for (outcome, len) in [(Torn::Old, 58), (Torn::New, 59), (Torn::Broken, 58)] {
         assert!(rt; gave(&left_by(rt.alloc(), &key, outcome)?, len));
     }
