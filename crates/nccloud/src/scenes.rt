@@ -11,5 +11,6 @@ mod put_scenes;
 mod running;
 mod script;
 mod shared;
+mod stored_scenes;
 mod taken_scenes;
 mod word_scenes;
