@@ -3,6 +3,7 @@ use Rattle.std.proofs.Common.{◌≡◌, ◌≢◌, ◌<◌, ◌≤◌, ◌+◌,
 use Rattle.std.proofs.lemmas.Bool.Decides.{eqb_tells}
 use Rattle.nc_cloud.specs.declared.fleet.Job.{Job}
 use Rattle.nc_cloud.specs.declared.fleet.Done.TheVariants as done
+use Rattle.nc_cloud.specs.Contents.Fate.{stayed}
 use Rattle.nc_cloud.specs.Contents.{Store, Contents, Write, Touch, Fate, Settles, ChangesAt, touch_at, LeavesCloud, Leaves}
 use Rattle.nc_cloud.specs.Images.{write_at, ImageCloud, Image, WrittenCloud, Written}
 use Rattle.nc_cloud.specs.Fleet.{write, writes, touch, touches, is_done}
@@ -21,6 +22,14 @@ image_cloud (j ∷ js) c old left is = image_step (nat_eq j.cloud c) j _ _ old l
 
 pub leaves_image : (js : List Job) (F G : Contents) → Leaves (touches js) F G → Image (writes js) F G
 leaves_image js F G leaves = record { each = λ c. image_cloud js c (F c) (G c) (leaves.each c) }
+
+-- a stop before a round has begun
+still_cloud : (p : Option Write) (s : Store) → ImageCloud p s s
+still_cloud None s = refl
+still_cloud (Some p) s = record { there = stayed refl; others = λ q other. refl }
+
+pub image_none : (ps : List Write) (F : Contents) → Image ps F F
+image_none ps F = record { each = λ c. still_cloud (write_at ps c) (F c) }
 
 written_step : (here : Bool) (j : Job) (t : Option Touch) (p : Option Write) (old left : Store) → j.done ≡ done.Ok → (LeavesCloud t old left → WrittenCloud p old left)
     → LeavesCloud (if here then Some (touch j) else t) old left → WrittenCloud (if here then Some (write j) else p) old left

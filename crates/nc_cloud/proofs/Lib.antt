@@ -9,3 +9,4 @@ pub mod Rounds
 mod SeatLaws
 mod SortLaws
 pub mod Served
+pub mod Time

@@ -8,6 +8,7 @@ use Rattle.nc_cloud.specs.declared.fleet.Answer.TheVariants as answer
 use Rattle.nc_cloud.specs.Contents.{Rose, Grows, Write}
 use Rattle.nc_cloud.specs.Fleet.{writes}
 use Rattle.nc_cloud.specs.Images.{Image, Written}
+use Rattle.nc_cloud.specs.Stopping.{Keeps}
 use Rattle.nc_cloud.specs.declared.fleet.Fleet.{Ghosts as FleetGhosts}
 use Rattle.nc_cloud.specs.declared.deciding.RoundFault.{RoundFault}
 use Rattle.nc_cloud.specs.declared.deciding.RoundFault.TheVariants.{Cloud, Memory}
@@ -78,6 +79,7 @@ pub record Wrote {A : Type 0} (F : FleetGhosts A) (ps : List Write) (ended : Lis
   pub entries : writes ended ≡ ps
   pub decides : DecidesJobs ended result
   pub image : F.tells → Image ps (F.held old) (F.held new)
+  pub keeps : F.tells → Keeps F old new (Image ps (F.held old))
   pub done : F.tells → OnOk result (Written ps (F.held old) (F.held new))
   pub counts : TellsCounts F old new result
   pub clouds : F.clouds new ≡ F.clouds old

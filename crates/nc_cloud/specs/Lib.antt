@@ -6,3 +6,5 @@ pub mod Fleet
 pub mod Images
 pub mod Rounds
 pub mod Seats
+pub mod Stopping
+pub mod Time

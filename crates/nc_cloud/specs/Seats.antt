@@ -10,6 +10,7 @@ use Rattle.nc_cloud.specs.declared.cloud.Got.{Got}
 use Rattle.nc_cloud.specs.declared.cloud.Got.TheVariants.{Bytes, Absent, Long}
 use Rattle.nc_cloud.specs.declared.cloud.CloudError.{CloudError}
 use Rattle.nc_cloud.specs.declared.cloud.CloudError.TheVariants.{Failed, Memory}
+use Rattle.nc_cloud.specs.declared.cloud.Cloud.{Ghosts as CloudGhosts}
 use Rattle.nc_cloud.specs.declared.seats.Seat.{Seat}
 use Rattle.nc_cloud.specs.Contents.{Contents, Store, Rose, Settles, ChangesAt}
 use Rattle.nc_cloud.specs.Fleet.{Shows, got_count, is_bytes, is_chunk, is_done}
@@ -52,23 +53,25 @@ abbrev pub count_at : {C : Type 0} → (C → ℕ) → List C → ℕ → ℕ
 count_at count clouds = λ c. slice_index_or (map count clouds) c 0
 
 -- a cloud that served a get, with its answer
-pub record DidGet {C : Type 0} (tells : Type 0) (held : C → Store) (faults : C → ℕ) (counts_exactly : Type 0) (chunk_gets : C → ℕ) (a : Ask) (old new : Seat C) : Type 0 where
-  pub told : tells → Shows new.answer a.most (held old.cloud a.key)
+pub record DidGet {C : Type 0} (K : CloudGhosts C) (a : Ask) (old new : Seat C) : Type 0 where
+  pub told : K.tells → Shows new.answer a.most (K.held old.cloud a.key)
   pub answered : new.answer ≢ answer.Waiting
-  pub held_stays : held new.cloud ≡ held old.cloud
-  pub failed : new.answer ≡ answer.Failed → Rose (faults old.cloud) (faults new.cloud)
-  pub exact : counts_exactly → new.answer ≢ answer.Failed → faults new.cloud ≡ faults old.cloud
-  pub later : faults old.cloud ≤ faults new.cloud
-  pub gets : chunk_gets new.cloud ≡ got_count (chunk_gets old.cloud) (if is_chunk a.key && is_bytes new.answer then 1 else 0)
+  pub held_stays : K.held new.cloud ≡ K.held old.cloud
+  pub failed : new.answer ≡ answer.Failed → Rose (K.faults old.cloud) (K.faults new.cloud)
+  pub exact : K.counts_exactly → new.answer ≢ answer.Failed → K.faults new.cloud ≡ K.faults old.cloud
+  pub later : K.faults old.cloud ≤ K.faults new.cloud
+  pub slips : K.slips new.cloud ≡ K.slips old.cloud
+  pub gets : K.chunk_gets new.cloud ≡ got_count (K.chunk_gets old.cloud) (if is_chunk a.key && is_bytes new.answer then 1 else 0)
 
 -- a cloud that served a put, with its answer
-pub record DidPut {C : Type 0} (tells : Type 0) (held : C → Store) (faults : C → ℕ) (counts_exactly : Type 0) (chunk_gets : C → ℕ) (j : Job) (old new : Seat C) : Type 0 where
-  pub told : tells → ChangesAt j.key (Settles (is_done new.done) (Some j.bytes)) (held old.cloud) (held new.cloud)
+pub record DidPut {C : Type 0} (K : CloudGhosts C) (j : Job) (old new : Seat C) : Type 0 where
+  pub told : K.tells → ChangesAt j.key (Settles (is_done new.done) (Some j.bytes)) (K.held old.cloud) (K.held new.cloud)
   pub answered : new.done ≢ done.Waiting
-  pub failed : new.done ≡ done.Failed → Rose (faults old.cloud) (faults new.cloud)
-  pub exact : counts_exactly → new.done ≢ done.Failed → faults new.cloud ≡ faults old.cloud
-  pub later : faults old.cloud ≤ faults new.cloud
-  pub gets : chunk_gets new.cloud ≡ chunk_gets old.cloud
+  pub failed : new.done ≡ done.Failed → Rose (K.faults old.cloud) (K.faults new.cloud)
+  pub exact : K.counts_exactly → new.done ≢ done.Failed → K.faults new.cloud ≡ K.faults old.cloud
+  pub later : K.faults old.cloud ≤ K.faults new.cloud
+  pub slips : K.slips new.cloud ≡ K.slips old.cloud
+  pub gets : K.chunk_gets new.cloud ≡ K.chunk_gets old.cloud
 
 -- a seat after a round: without an entry it stays
 abbrev pub Serves : {C X : Type 0} → (X → Seat C → Seat C → Type 0) → Option X → Seat C → Seat C → Type 0

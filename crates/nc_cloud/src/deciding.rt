@@ -3,6 +3,7 @@ ghost use Rattle.nc_frame.specs.Frames.{Whole};
 ghost use Rattle.nc_cloud.specs.Fleet.{asked, writes, Answers, chunks_got, got_count};
 ghost use Rattle.nc_cloud.specs.declared.fleet.Job.{Job};
 ghost use Rattle.nc_cloud.specs.Deciding.{AreAscending, BlamesJob, BlamesAsk, DecidesAsks, DecidesJobs, IsSeen, OnlyLooked, TellsCounts, Wrote};
+ghost use Rattle.nc_cloud.specs.Stopping.{Stops};
 
 use crate::fleet::{Answer, Ask, Done, Fleet, Job};
 use thiserror::Error;
@@ -90,6 +91,7 @@ pub fn ask_round<F: Fleet>(fleet: &mut F, asks: &mut [Ask]) -> Result<(), RoundF
     ensures decides { DecidesAsks asks.new result }
     ensures counts { TellsCounts F.Fleet fleet.old fleet.new result }
     ensures looked { OnlyLooked F.Fleet fleet.old fleet.new }
+    ensures stops { Stops F.Fleet fleet.old fleet.new (λ G. G ≡ F.held fleet.old) }
     ensures gets { (c : ℕ) → F.chunk_gets fleet.new c ≡ got_count (F.chunk_gets fleet.old c) (chunks_got c asks.new) }
 {
     fleet.get_round(asks);

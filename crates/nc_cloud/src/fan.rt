@@ -54,9 +54,13 @@ impl<C: Cloud + Send + Drop, R: Threads + Sync + Drop> Fleet for Fanned<C, R> {
 
     ghost faults = { λ fleet. count_at C.faults (clouds_of fleet) };
 
+    ghost slips = { λ fleet. count_at C.slips (clouds_of fleet) };
+
     ghost counts_exactly = { C.counts_exactly };
 
     ghost chunk_gets = { λ fleet. count_at C.chunk_gets (clouds_of fleet) };
+
+    ghost now = { λ _. 0 };
 
     fn width(&self) -> usize {
         self.seats.len()
@@ -69,6 +73,14 @@ impl<C: Cloud + Send + Drop, R: Threads + Sync + Drop> Fleet for Fanned<C, R> {
     fn put_round(&mut self, jobs: &mut [Job]) {
         fan_puts(&mut self.seats, jobs);
     }
+
+    ghost counts_now = { λ f t told le. absurd told };
+
+    ghost past_now = { λ f told. absurd told };
+
+    ghost only_now = { λ f G is. absurd is };
+
+    ghost earlier = { λ f s t G le is. is };
 }
 
 /// Each cloud in a seat.

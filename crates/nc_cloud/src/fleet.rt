@@ -1,7 +1,9 @@
-ghost use Rattle.std.specs.Prelude.{◌≡◌, ◌≢◌, ◌<◌, ℕ, All, AllPairs, map};
+ghost use Rattle.std.specs.Prelude.{◌≡◌, ◌≢◌, ◌<◌, ◌≤◌, ℕ, All, AllPairs, map};
 ghost use Rattle.nc_frame.specs.Frames.{Whole};
-ghost use Rattle.nc_cloud.specs.Contents.{Contents, Rose, Leaves, Grows};
+ghost use Rattle.nc_cloud.specs.Contents.{Contents, Rose, Leaves, Grows, nothing};
 ghost use Rattle.nc_cloud.specs.Fleet.{asked, chunks_got, got_count, writes, touches, Answers};
+ghost use Rattle.nc_cloud.specs.Images.{Image};
+ghost use Rattle.nc_cloud.specs.Time.{Elapses, Stays};
 ghost use Rattle.nc_cloud.specs.declared.fleet.Answer.TheVariants.{Waiting as Unanswered, Failed as NoAnswer};
 ghost use Rattle.nc_cloud.specs.declared.fleet.Done.TheVariants.{Waiting, Failed};
 
@@ -72,11 +74,26 @@ pub trait Fleet {
     /// How many gets and puts of a cloud have failed.
     ghost faults: { Self → ℕ → ℕ };
 
+    /// How many deletes and lists of a cloud have failed.
+    ghost slips: { Self → ℕ → ℕ };
+
     /// These counts rise at entries that failed, and at no others.
     ghost counts_exactly: { Type 0 } = { ⊥ };
 
     /// How many gets of chunks of a cloud have given bytes.
     ghost chunk_gets: { Self → ℕ → ℕ };
+
+    /// The fleet says what a stop may leave, and what was held before.
+    ghost tells_images: { Type 0 } = { ⊥ };
+
+    /// A moment that never falls.
+    ghost now: { Self → ℕ };
+
+    /// What was held at a moment, where the fleet tells images.
+    ghost past: { Self → ℕ → Contents } = { λ _ _. nothing };
+
+    /// A stop at that moment or later could have left these contents. Nothing, where the fleet doesn't tell images.
+    ghost image: { Self → ℕ → Contents → Type 0 } = { λ _ _ _. ⊥ };
 
     /// The number of clouds, which never changes.
     fn width(&self) -> usize
@@ -95,7 +112,10 @@ pub trait Fleet {
         ensures clouds { clouds self.new ≡ clouds self.old }
         ensures held { held self.new ≡ held self.old }
         ensures grows { Grows (faults self.old) (faults self.new) }
-        ensures gets { (c : ℕ) → chunk_gets self.new c ≡ got_count (chunk_gets self.old c) (chunks_got c asks.new) };
+        ensures slips { slips self.new ≡ slips self.old }
+        ensures gets { (c : ℕ) → chunk_gets self.new c ≡ got_count (chunk_gets self.old c) (chunks_got c asks.new) }
+        ensures time { Elapses (now self.old) (now self.new) (image self.old) (image self.new) (λ G. G ≡ held self.old) }
+        ensures past { tells_images → Stays (now self.old) (past self.old) (past self.new) };
 
     /// Writes an object on each of some clouds. How each ended stands in the entries afterwards.
     fn put_round(&mut self, jobs: &mut [Job])
@@ -110,5 +130,20 @@ pub trait Fleet {
         ensures exact { counts_exactly → (c : ℕ) → All (λ j. j.cloud ≡ c → j.done ≢ Failed) jobs.new → faults self.new c ≡ faults self.old c }
         ensures clouds { clouds self.new ≡ clouds self.old }
         ensures grows { Grows (faults self.old) (faults self.new) }
-        ensures gets { chunk_gets self.new ≡ chunk_gets self.old };
+        ensures slips { slips self.new ≡ slips self.old }
+        ensures gets { chunk_gets self.new ≡ chunk_gets self.old }
+        ensures time { Elapses (now self.old) (now self.new) (image self.old) (image self.new) (Image (writes jobs.old) (held self.old)) }
+        ensures past { tells_images → Stays (now self.old) (past self.old) (past self.new) };
+
+    /// What is held now is an image since each moment up to now.
+    ghost counts_now: { (fleet : Self) (t : ℕ) → tells_images → t ≤ now fleet → image fleet t (held fleet) };
+
+    /// What is held now is what is held at this moment.
+    ghost past_now: { (fleet : Self) → tells_images → past fleet (now fleet) ≡ held fleet };
+
+    /// Since now itself no other contents are one.
+    ghost only_now: { (fleet : Self) (G : Contents) → image fleet (now fleet) G → G ≡ held fleet };
+
+    /// An image since a moment is one since every earlier moment.
+    ghost earlier: { (fleet : Self) (s t : ℕ) (G : Contents) → s ≤ t → image fleet t G → image fleet s G };
 }

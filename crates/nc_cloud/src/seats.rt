@@ -56,7 +56,7 @@ fn done_by(put: Result<(), CloudError>) -> Done
 
 /// Serves the ask of this cloud, where there is one.
 fn serve_get<C: Cloud>(cloud: usize, seat: &mut Seat<C>, asks: &[Ask])
-    ensures { Serves (DidGet C.tells C.held C.faults C.counts_exactly C.chunk_gets) (ask_at asks.now cloud) seat.old seat.new }
+    ensures { Serves (DidGet C.Cloud) (ask_at asks.now cloud) seat.old seat.new }
 {
     match ask_of(asks, cloud) {
         None => {}
@@ -69,7 +69,7 @@ fn serve_get<C: Cloud>(cloud: usize, seat: &mut Seat<C>, asks: &[Ask])
 /// Does the job of this cloud, where there is one.
 fn serve_put<C: Cloud>(cloud: usize, seat: &mut Seat<C>, jobs: &[Job])
     requires { All (λ j. Whole j.bytes) jobs.now }
-    ensures { Serves (DidPut C.tells C.held C.faults C.counts_exactly C.chunk_gets) (job_at jobs.now cloud) seat.old seat.new }
+    ensures { Serves (DidPut C.Cloud) (job_at jobs.now cloud) seat.old seat.new }
 {
     match job_of(jobs, cloud) {
         None => {}
@@ -81,7 +81,7 @@ fn serve_put<C: Cloud>(cloud: usize, seat: &mut Seat<C>, jobs: &[Job])
 
 /// Each cloud serves its ask.
 fn serve_gets<C: Cloud>(seats: &mut [Seat<C>], asks: &[Ask])
-    ensures { AllServed (λ c. Serves (DidGet C.tells C.held C.faults C.counts_exactly C.chunk_gets) (ask_at asks.now c)) seats.old seats.new }
+    ensures { AllServed (λ c. Serves (DidGet C.Cloud) (ask_at asks.now c)) seats.old seats.new }
 {
     for cloud in 0..seats.len() {
         serve_get(cloud, &mut seats[cloud], asks);
@@ -91,7 +91,7 @@ fn serve_gets<C: Cloud>(seats: &mut [Seat<C>], asks: &[Ask])
 /// Each cloud does its job.
 fn serve_puts<C: Cloud>(seats: &mut [Seat<C>], jobs: &[Job])
     requires { All (λ j. Whole j.bytes) jobs.now }
-    ensures { AllServed (λ c. Serves (DidPut C.tells C.held C.faults C.counts_exactly C.chunk_gets) (job_at jobs.now c)) seats.old seats.new }
+    ensures { AllServed (λ c. Serves (DidPut C.Cloud) (job_at jobs.now c)) seats.old seats.new }
 {
     for cloud in 0..seats.len() {
         serve_put(cloud, &mut seats[cloud], jobs);
@@ -149,6 +149,7 @@ pub(crate) fn fan_gets<C: Cloud>(seats: &mut [Seat<C>], asks: &mut [Ask])
     ensures exact { C.counts_exactly → (c : ℕ) → All (λ a. a.cloud ≡ c → a.answer ≢ Answer.Failed) asks.new → count_at C.faults (clouds_in seats.new) c ≡ count_at C.faults (clouds_in seats.old) c }
     ensures held { contents_at C.held (clouds_in seats.new) ≡ contents_at C.held (clouds_in seats.old) }
     ensures grows { Grows (count_at C.faults (clouds_in seats.old)) (count_at C.faults (clouds_in seats.new)) }
+    ensures slips { count_at C.slips (clouds_in seats.new) ≡ count_at C.slips (clouds_in seats.old) }
     ensures gets { (c : ℕ) → count_at C.chunk_gets (clouds_in seats.new) c ≡ got_count (count_at C.chunk_gets (clouds_in seats.old) c) (chunks_got c asks.new) }
 {
     serve_gets(seats, asks);
@@ -166,6 +167,7 @@ pub(crate) fn fan_puts<C: Cloud>(seats: &mut [Seat<C>], jobs: &mut [Job])
     ensures failed { All (λ j. j.done ≡ Done.Failed → Rose (count_at C.faults (clouds_in seats.old) j.cloud) (count_at C.faults (clouds_in seats.new) j.cloud)) jobs.new }
     ensures exact { C.counts_exactly → (c : ℕ) → All (λ j. j.cloud ≡ c → j.done ≢ Done.Failed) jobs.new → count_at C.faults (clouds_in seats.new) c ≡ count_at C.faults (clouds_in seats.old) c }
     ensures grows { Grows (count_at C.faults (clouds_in seats.old)) (count_at C.faults (clouds_in seats.new)) }
+    ensures slips { count_at C.slips (clouds_in seats.new) ≡ count_at C.slips (clouds_in seats.old) }
     ensures gets { count_at C.chunk_gets (clouds_in seats.new) ≡ count_at C.chunk_gets (clouds_in seats.old) }
 {
     serve_puts(seats, jobs);

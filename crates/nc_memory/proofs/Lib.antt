@@ -1,6 +1,10 @@
+mod Cuts
 mod Fates
 mod Numbered
+pub mod PastLaws
 mod RecordLaws
 mod Serves
 mod SortLaws
+mod Stopping
 mod StoreLaws
+mod Wholes

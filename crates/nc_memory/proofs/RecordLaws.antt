@@ -1,8 +1,7 @@
 -- What the record of a memory fleet says after a round.
 use Rattle.std.proofs.Common.{◌≡◌, ◌≢◌, ℕ, zero, suc, ◌+◌, ◌-◌, ◌<◌, ◌≤◌, Bool, true, false, ◌&&◌, cond, Option, None, Some, List, [], ◌∷◌, ◌++◌, map, length, take, drop, get_or, length-drop, refl, sym, ap, ap₂, ◌∙◌, subst, arith, All, nat_eq, if◌then◌else◌, inl, inr, ◌⊎◌, append-nil, nat_le}
 use Rattle.std.specs.Option.{is_some}
-use Rattle.std.specs.Bool.{Decides}
-use Rattle.std.proofs.lemmas.Bool.Decides.{Decides-eqb, Decides-and, Decides-like, leb_tells}
+use Rattle.std.proofs.lemmas.Bool.Decides.{leb_tells}
 use Rattle.std.proofs.lemmas.Bool.{eq-eqb, eqb-true}
 use Rattle.std.proofs.lemmas.Simd.{map-map}
 use Rattle.std.proofs.lemmas.List.Elements.{All-map}
@@ -10,9 +9,7 @@ use Rattle.std.proofs.lemmas.List.{take-append-drop}
 use Rattle.nc_frame.proofs.FrameLaws.{proper_prefixes_are_torn}
 use Rattle.nc_frame.proofs.Shapes.{length-frame}
 use Rattle.nc_memory.proofs.Numbered.{map-numbered}
-use Rattle.std.proofs.lemmas.Slice.Eq.{slice_eq-Decides}
 use Rattle.nc_name.specs.declared.key.Key.{Key}
-use Rattle.nc_name.specs.declared.key.Key.TheVariants.{Meta, Chunk}
 use Rattle.nc_frame.specs.Frames.{Whole, AreTorn as IsTornFrame}
 use Rattle.nc_cloud.specs.declared.fleet.Ask.{Ask}
 use Rattle.nc_cloud.specs.declared.fleet.Job.{Job}
@@ -65,7 +62,7 @@ broken_is_torn bytes whole =
     absurd (omega (arith, length-drop (length bytes - 1) bytes, none)))
 
 -- a put of another key changes nothing
-stays : (b : Bool) (old new : Option (List ℕ)) → (b ≡ true → ⊥) → (if b then new else old) ≡ old
+pub stays : (b : Bool) (old new : Option (List ℕ)) → (b ≡ true → ⊥) → (if b then new else old) ≡ old
 stays true old new not_so = absurd (not_so refl)
 stays false old new not_so = refl
 
@@ -163,7 +160,7 @@ failures_after_puts log refusals n [] c = ap (λ es. failures es c) (append-nil 
 failures_after_puts log refusals n (j ∷ jobs) c =
     failures-more log (Puts (steps_of refusals n (j ∷ jobs))) c
     ∙ ap (λ k. failures log c + k)
-    (tally-numbered (λ s. nat_eq s.cloud c && is_some s.refused) (failed_job c) (step_of refusals) (done_job refusals)
+    (tally-numbered (λ s. nat_eq s.cloud c && s.failed) (failed_job c) (step_of refusals) (done_job refusals)
     (λ k x. ap (λ b. nat_eq x.cloud c && b) (same_failed (refused_at refusals k))) n (j ∷ jobs))
 
 -- a count after a round

@@ -13,7 +13,7 @@ use Rattle.nc_memory.specs.Record.{answered_asks, contents_after, counted, done_
 
 -- what happened to it
 abbrev pub log_of : MemFleet → List Event
-log_of fleet = fleet.log.items
+log_of fleet = fleet.log.events.items
 
 abbrev pub refusals_of : MemFleet → List Refusal
 refusals_of fleet = fleet.refusals.items

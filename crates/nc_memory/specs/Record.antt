@@ -1,6 +1,7 @@
 -- What a memory fleet records, and what follows of what its clouds hold and how often they failed.
-use Rattle.std.specs.Prelude.{ℕ, ◌+◌, ◌-◌, ◌^◌, Bool, false, ◌&&◌, Option, None, Some, List, [], ◌∷◌, length, take, min, nat_eq, nat_le, if◌then◌else◌, find, option_map, is_some}
+use Rattle.std.specs.Prelude.{ℕ, ◌+◌, ◌-◌, ◌^◌, ◌&&◌, Option, None, Some, List, [], ◌∷◌, length, take, min, nat_eq, nat_le, if◌then◌else◌, find, option_map, is_some}
 use Rattle.nc_name.specs.declared.key.Key.{Key}
+use Rattle.nc_frame.specs.Frames.{Whole}
 use Rattle.nc_cloud.specs.declared.fleet.Ask.{Ask}
 use Rattle.nc_cloud.specs.declared.fleet.Job.{Job}
 use Rattle.nc_cloud.specs.declared.fleet.Done.{Done}
@@ -44,7 +45,7 @@ abbrev pub look_of : Ask → Look
 look_of a = record { cloud = a.cloud; failed = is_failed a.answer; gave_chunk = is_chunk a.key && is_bytes a.answer }
 
 abbrev pub step_by : Option Torn → Job → Step
-step_by refused j = record { cloud = j.cloud; key = j.key; bytes = j.bytes; refused = refused }
+step_by refused j = record { cloud = j.cloud; key = j.key; bytes = j.bytes; failed = is_some refused; fate = refused }
 
 abbrev pub step_of : List Refusal → ℕ → Job → Step
 step_of refusals k j = step_by (refused_at refusals k) j
@@ -52,6 +53,20 @@ step_of refusals k j = step_by (refused_at refusals k) j
 -- the puts of a round, where n entries came before it
 abbrev pub steps_of : List Refusal → ℕ → List Job → List Step
 steps_of refusals n jobs = numbered (step_of refusals) n jobs
+
+-- what was put in rounds was whole
+abbrev pub WholeSteps : List Step → Type 0
+WholeSteps [] = Unit {0}
+WholeSteps (s ∷ ss) = Whole s.bytes × WholeSteps ss
+
+abbrev pub WholeEvent : Event → Type 0
+WholeEvent (Gets looks) = Unit {0}
+WholeEvent (Puts steps) = WholeSteps steps
+WholeEvent (Planted cloud key bytes) = Unit {0}
+
+abbrev pub WholeLog : List Event → Type 0
+WholeLog [] = Unit {0}
+WholeLog (e ∷ es) = WholeEvent e × WholeLog es
 
 -- ---- what a cloud holds
 
@@ -69,7 +84,7 @@ left (Some Broken) bytes old = Some (take (length bytes - 1) bytes)
 
 abbrev pub step_value : Option Step → Key → Option (List ℕ) → Option (List ℕ)
 step_value None key old = old
-step_value (Some s) key old = if key_eq s.key key then left s.refused s.bytes old else old
+step_value (Some s) key old = if key_eq s.key key then left s.fate s.bytes old else old
 
 -- what an event makes of what a cloud holds under a key
 abbrev pub value_after : Event → ℕ → Key → Option (List ℕ) → Option (List ℕ)
@@ -116,7 +131,7 @@ starved_job j = record j { done = done.Memory }
 -- how many entries of an event failed on a cloud
 abbrev pub failed_in : Event → ℕ → ℕ
 failed_in (Gets looks) c = tally (λ l. nat_eq l.cloud c && l.failed) looks
-failed_in (Puts steps) c = tally (λ s. nat_eq s.cloud c && is_some s.refused) steps
+failed_in (Puts steps) c = tally (λ s. nat_eq s.cloud c && s.failed) steps
 failed_in (Planted cloud key bytes) c = 0
 
 abbrev pub failures : List Event → ℕ → ℕ

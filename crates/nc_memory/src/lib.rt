@@ -3,10 +3,13 @@
 
 #[cfg(test)]
 mod cloud_tests;
+mod log;
 mod mem_cloud;
 mod memory;
 mod record;
+mod rounds;
 mod serving;
+mod stops;
 mod store;
 #[cfg(test)]
 mod tests;

@@ -5,10 +5,20 @@ ghost use Rattle.nc_cloud.specs.Contents.{Rose, Leaves, Grows, nothing};
 ghost use Rattle.nc_cloud.specs.Fleet.{asked, chunks_got, got_count, writes, touches, Answers};
 ghost use Rattle.nc_cloud.specs.declared.fleet.Answer.TheVariants.{Waiting as Unanswered, Failed as NoAnswer};
 ghost use Rattle.nc_cloud.specs.declared.fleet.Done.TheVariants.{Waiting, Failed};
+ghost use Rattle.nc_cloud.specs.Images.{Image};
+ghost use Rattle.nc_cloud.specs.Time.{Elapses, Stays};
+ghost use Rattle.nc_memory.specs.MomentLaws.{at_last, one_earlier, only_last, still_one};
+ghost use Rattle.nc_memory.specs.Moments.{image_of, now_of, past_of};
+ghost use Rattle.nc_memory.specs.Record.{counted, WholeSteps};
+ghost use Rattle.nc_memory.specs.Rounds.{entries_served, round_entries, round_place, rounds_in};
+ghost use Rattle.nc_memory.specs.Stops.{cut, LeavesStopped};
 ghost use Rattle.nc_memory.specs.Memory.{chunk_gets_of, contents_of, entries_of, faults_of, gets_event, log_of, puts_event, refusals_of, width_of, Gives, ServesGets, ServesPuts, Takes, Unchanged};
 
+use crate::log::Log;
 use crate::record::{Event, LookList, Refusal, StepList, Torn, gifts_in, object_in};
+use crate::rounds::{count_entries, count_rounds, entries_at, find_round};
 use crate::serving::{answer_all, looks_of, mark, plan_puts, starve_asks, starve_jobs};
+use crate::stops::{copied_refusals, cut_log, push_refusal};
 use nc_cloud::{Ask, Fleet, Job};
 use nc_name::{Blob, Key, Memory};
 use std::alloc::Global;
@@ -19,51 +29,32 @@ use std::alloc::Global;
 pub struct MemFleet {
     alloc: Global,
     width: usize,
-    log: Vec<Event>,
+    log: Log,
     refusals: Vec<Refusal>,
     entries: u64,
 }
 
-fn push_event(log: &mut Vec<Event>, event: Event) -> Result<(), Memory>
-    ensures ok { OnOk result (log.new.items ≡ log.old.items ++ event ∷ []) }
-    ensures err { OnErr result (log.new.items ≡ log.old.items) }
-{
-    match log.push(event) {
-        Ok(()) => Ok(()),
-        Err(_) => Err(Memory),
-    }
-}
-
 /// Records the gets of a round, where there are any.
-fn record_gets(log: &mut Vec<Event>, looks: LookList) -> Result<(), Memory>
-    ensures ok { OnOk result (log.new.items ≡ log.old.items ++ gets_event looks) }
-    ensures err { OnErr result (log.new.items ≡ log.old.items) }
+fn record_gets(log: &mut Log, looks: LookList) -> Result<(), Memory>
+    ensures ok { OnOk result (log.new.events.items ≡ log.old.events.items ++ gets_event looks) }
+    ensures err { OnErr result (log.new.events.items ≡ log.old.events.items) }
 {
     if looks.items().is_empty() {
         return Ok(());
     }
-    push_event(log, Event::Gets(looks))
+    log.push(Event::Gets(looks))
 }
 
 /// Records the puts of a round, where there are any.
-fn record_puts(log: &mut Vec<Event>, steps: StepList) -> Result<(), Memory>
-    ensures ok { OnOk result (log.new.items ≡ log.old.items ++ puts_event steps) }
-    ensures err { OnErr result (log.new.items ≡ log.old.items) }
+fn record_puts(log: &mut Log, steps: StepList) -> Result<(), Memory>
+    requires { WholeSteps steps }
+    ensures ok { OnOk result (log.new.events.items ≡ log.old.events.items ++ puts_event steps) }
+    ensures err { OnErr result (log.new.events.items ≡ log.old.events.items) }
 {
     if steps.items().is_empty() {
         return Ok(());
     }
-    push_event(log, Event::Puts(steps))
-}
-
-fn push_refusal(refusals: &mut Vec<Refusal>, refusal: Refusal) -> Result<(), Memory>
-    ensures ok { OnOk result (refusals.new.items ≡ refusals.old.items ++ refusal ∷ []) }
-    ensures err { OnErr result (refusals.new.items ≡ refusals.old.items) }
-{
-    match refusals.push(refusal) {
-        Ok(()) => Ok(()),
-        Err(_) => Err(Memory),
-    }
+    log.push(Event::Puts(steps))
 }
 
 impl MemFleet {
@@ -79,7 +70,7 @@ impl MemFleet {
         Ok(MemFleet {
             alloc,
             width,
-            log: Vec::new(alloc),
+            log: Log::new(alloc),
             refusals: Vec::new(alloc),
             entries: 0,
         })
@@ -103,14 +94,58 @@ impl MemFleet {
     pub fn object(&self, cloud: u8, key: &Key) -> Option<&[u8]>
         ensures { option_map (λ bytes. bytes.now) result ≡ contents_of self.now cloud key.now }
     {
-        object_in(&self.log, cloud, key)
+        object_in(&self.log.events, cloud, key)
     }
 
     /// How many gets of chunks of a cloud have given bytes.
     pub fn gets(&self, cloud: u8) -> u64
         ensures { result ≡ chunk_gets_of self.now cloud }
     {
-        gifts_in(&self.log, cloud)
+        gifts_in(&self.log.events, cloud)
+    }
+
+    /// How many rounds there were. A round without entries doesn't count.
+    pub fn rounds(&self) -> u64
+        ensures { result ≡ rounds_in (log_of self.now) }
+    {
+        count_rounds(&self.log.events)
+    }
+
+    /// How many entries a round had, the first round being round 0.
+    pub fn entries(&self, round: u64) -> usize
+        ensures { result ≡ round_entries (log_of self.now) round }
+    {
+        entries_at(&self.log.events, round)
+    }
+
+    /// The fleet as a stop in this round leaves it, with each entry in its fate: Old where none is given. It keeps the
+    /// record and the counts up to this round, this one included, and all refusals.
+    pub fn stopped(&self, round: u64, fates: &[Torn]) -> Result<MemFleet, Memory>
+        requires { round < rounds_in (log_of self.now) }
+        ensures cut { IfOk result (λ fleet. log_of fleet ≡ cut (round_place (log_of self.now) round) fates.now (log_of self.now)) }
+        ensures leaves { IfOk result (LeavesStopped (round_place (log_of self.now) round) self.now) }
+        ensures entries { IfOk result (λ fleet. entries_of fleet ≡ counted (entries_served (log_of fleet))) }
+        ensures refusals { IfOk result (λ fleet. refusals_of fleet ≡ refusals_of self.now) }
+        ensures width { IfOk result (λ fleet. width_of fleet ≡ width_of self.now) }
+    {
+        let at = find_round(&self.log.events, round);
+        let log = cut_log(self.alloc, &self.log, at, fates)?;
+        let refusals = copied_refusals(self.alloc, &self.refusals)?;
+        let entries = count_entries(&log.events);
+        Ok(MemFleet {
+            alloc: self.alloc,
+            width: self.width,
+            log,
+            refusals,
+            entries,
+        })
+    }
+
+    /// The length of the record: its rounds and the objects that were planted.
+    pub fn length(&self) -> u64
+        ensures { result ≡ now_of self.now }
+    {
+        self.log.events.len() as u64
     }
 
     /// Places an object on a cloud without a round. It serves tests. At `Memory` nothing changed.
@@ -127,14 +162,11 @@ impl MemFleet {
         ensures width { width_of self.new ≡ width_of self.old }
     {
         let bytes = Blob::from_slice(self.alloc, bytes)?;
-        push_event(
-            &mut self.log,
-            Event::Planted {
-                cloud,
-                key: *key,
-                bytes,
-            },
-        )?;
+        self.log.push(Event::Planted {
+            cloud,
+            key: *key,
+            bytes,
+        })?;
         Ok(())
     }
 
@@ -144,7 +176,8 @@ impl MemFleet {
         ensures ok { OnOk result (Gives self.old self.new asks.old asks.new) }
         ensures err { OnErr result (Unchanged self.old self.new) }
     {
-        answer_all(self.alloc, &self.log, &self.refusals, self.entries, asks)?;
+        let log = &self.log;
+        answer_all(self.alloc, &log.events, &self.refusals, self.entries, asks)?;
         let looks = looks_of(self.alloc, asks)?;
         record_gets(&mut self.log, looks)?;
         self.entries = self.entries.saturating_add(asks.len() as u64);
@@ -153,6 +186,7 @@ impl MemFleet {
 
     /// Records the puts of a round and answers them.
     fn take(&mut self, jobs: &mut [Job]) -> Result<(), Memory>
+        requires { All (λ j. Whole j.bytes) jobs.old }
         ensures ok { OnOk result (Takes self.old self.new jobs.old jobs.new) }
         ensures err { OnErr result ((jobs.new ≡ jobs.old) × Unchanged self.old self.new) }
     {
@@ -173,6 +207,7 @@ impl MemFleet {
     }
 
     fn serve_puts(&mut self, jobs: &mut [Job])
+        requires { All (λ j. Whole j.bytes) jobs.old }
         ensures { ServesPuts self.old self.new jobs.old jobs.new }
     {
         if self.take(jobs).is_err() {
@@ -190,9 +225,19 @@ impl Fleet for MemFleet {
 
     ghost faults = { faults_of };
 
+    ghost slips = { λ _ _. 0 };
+
     ghost counts_exactly = { Unit {0} };
 
     ghost chunk_gets = { chunk_gets_of };
+
+    ghost tells_images = { Unit {0} };
+
+    ghost now = { now_of };
+
+    ghost past = { past_of };
+
+    ghost image = { image_of };
 
     fn width(&self) -> usize {
         self.width
@@ -210,6 +255,8 @@ impl Fleet for MemFleet {
         ensures held { contents_of self.new ≡ contents_of self.old }
         ensures grows { Grows (faults_of self.old) (faults_of self.new) }
         ensures gets { (c : ℕ) → chunk_gets_of self.new c ≡ got_count (chunk_gets_of self.old c) (chunks_got c asks.new) }
+        ensures time { Elapses (now_of self.old) (now_of self.new) (image_of self.old) (image_of self.new) (λ G. G ≡ contents_of self.old) }
+        ensures past { Stays (now_of self.old) (past_of self.old) (past_of self.new) }
         ensures serves { ServesGets self.old self.new asks.old asks.new }
     {
         self.serve_gets(asks);
@@ -227,8 +274,18 @@ impl Fleet for MemFleet {
         ensures clouds { width_of self.new ≡ width_of self.old }
         ensures grows { Grows (faults_of self.old) (faults_of self.new) }
         ensures gets { chunk_gets_of self.new ≡ chunk_gets_of self.old }
+        ensures time { Elapses (now_of self.old) (now_of self.new) (image_of self.old) (image_of self.new) (Image (writes jobs.old) (contents_of self.old)) }
+        ensures past { Stays (now_of self.old) (past_of self.old) (past_of self.new) }
         ensures serves { ServesPuts self.old self.new jobs.old jobs.new }
     {
         self.serve_puts(jobs);
     }
+
+    ghost counts_now = { λ f t told le. still_one (log_of f) t nothing };
+
+    ghost past_now = { λ f told. at_last (log_of f) nothing };
+
+    ghost only_now = { λ f G is. only_last (log_of f) nothing G is };
+
+    ghost earlier = { λ f s t G le is. one_earlier (log_of f) s t nothing G le is };
 }

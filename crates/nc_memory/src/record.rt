@@ -37,7 +37,9 @@ pub struct Step {
     pub cloud: u8,
     pub key: Key,
     pub bytes: Blob,
-    pub refused: Option<Torn>,
+    pub failed: bool,
+    /// How its object was left, where not as was asked.
+    pub fate: Option<Torn>,
 }
 
 /// Gets of one round.
@@ -64,10 +66,10 @@ pub(crate) fn step_of(steps: &StepList, cloud: u8) -> Option<&Step>
 
 /// What an object is after a put, where it was `old` before.
 fn object_left<'a>(step: &'a Step, old: Option<&'a [u8]>) -> Option<&'a [u8]>
-    ensures { option_map (λ r. r.now) result ≡ left step.now.refused step.now.bytes (option_map (λ r. r.now) old.entry) }
+    ensures { option_map (λ r. r.now) result ≡ left step.now.fate step.now.bytes (option_map (λ r. r.now) old.entry) }
 {
     let bytes = step.bytes.bytes();
-    match step.refused {
+    match step.fate {
         None => Some(bytes),
         Some(Torn::Old) => old,
         Some(Torn::New) => Some(bytes),

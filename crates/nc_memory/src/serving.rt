@@ -77,7 +77,8 @@ fn plan_put(alloc: Global, refused: Option<Torn>, job: &Job) -> Result<Step, Mem
         cloud: job.cloud,
         key: job.key,
         bytes: Blob::from_slice(alloc, job.bytes.bytes())?,
-        refused,
+        failed: refused.is_some(),
+        fate: refused,
     })
 }
 

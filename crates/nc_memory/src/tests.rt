@@ -122,3 +122,33 @@ fn a_refused_get_fails_and_the_next_gives(rt: HostRuntime) -> Result<(), Fail> {
     assert!(rt; gave(&get(&mut fleet, 1, &key, 58), 58));
     Ok(())
 }
+
+/// What cloud 1 of 4 holds after puts of 58, 59 and 57 bytes, of which the second was stopped so.
+fn len_stopped(alloc: Global, key: &Key, fate: Torn) -> Result<Option<usize>, Memory>
+    requires slots { Slots key.now }
+{
+    let mut fleet = MemFleet::new(alloc, 4)?;
+    put(alloc, &mut fleet, 1, key, &[4, 4])?;
+    put(alloc, &mut fleet, 1, key, &[5, 6, 7])?;
+    put(alloc, &mut fleet, 1, key, &[8])?;
+    if fleet.rounds() < 3 || fleet.length() != 3 || fleet.entries(1) != 1 {
+        return Ok(Some(0));
+    }
+    let left = fleet.stopped(1, &[fate])?;
+    Ok(len_of(&left, 1, key))
+}
+
+#[test]
+fn a_stopped_put_leaves_its_fate_and_none_comes_after_it(rt: HostRuntime) -> Result<(), Fail> {
+    let key = chunk(Name::read("a")?);
+    let cases = [
+        (Torn::Old, Some(58)),
+        (Torn::New, Some(59)),
+        (Torn::Gone, None),
+        (Torn::Broken, Some(58)),
+    ];
+    for (fate, left) in cases {
+        assert_eq!(rt; len_stopped(rt.alloc(), &key, fate)?, left);
+    }
+    Ok(())
+}

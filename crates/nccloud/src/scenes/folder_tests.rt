@@ -34,7 +34,7 @@ static REFUSED: [(Option<&str>, &str, &str); 7] = [
 static LIST: &str = "scratch_file/0,scratch_file/1,scratch_file/2,scratch_file/3";
 
 /// The input of these runs.
-const FILE: Bytes = Bytes::Mixed(3_000_000);
+const FILE: Bytes = Bytes::Mixed(300_000);
 
 const NOTHING: Bytes = Bytes::Are(b"");
 
@@ -150,6 +150,7 @@ fn a_file_stands_in_folders(rt: HostRuntime) -> Result<(), Fail> {
         let ended = ends(&rt, &mut fleet, words, answer, output)?;
         assert!(rt; ended, "{words}: {answer}");
     }
+    fs::remove_dir_all(&rt, "scratch_file")?;
     Ok(())
 }
 

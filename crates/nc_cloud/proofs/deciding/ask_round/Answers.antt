@@ -5,6 +5,7 @@ use Rattle.nc_cloud.specs.declared.fleet.Answer.TheVariants as answer
 use Rattle.nc_cloud.specs.Fleet.{asked}
 use Rattle.nc_cloud.specs.Deciding.{BlamesAsk, IsSeen}
 use Rattle.nc_cloud.proofs.Decisions.{caused, ascend_kept, once, seen_counts}
+use Rattle.nc_cloud.proofs.Time.{stops_round}
 use Rattle.nc_cloud.proofs.deciding.ask_round.Goals as goal
 
 pub get_round-requires-clause-below : goal.get_round-requires-clause-below
@@ -30,3 +31,6 @@ returns-clause-looked g c = record {
   held = c.get_round.ensures.held;
   grows = c.get_round.ensures.grows;
 }
+
+pub returns-clause-stops : goal.returns-clause-stops
+returns-clause-stops g c = stops_round (λ G. G ≡ g.F.Fleet.held c.args.fleet.now) c.get_round.ensures.time c.get_round.ensures.past (λ G is. is)

@@ -8,6 +8,7 @@ use Rattle.nc_cloud.specs.Images.{Image, Written}
 use Rattle.nc_cloud.specs.Deciding.{BlamesJob}
 use Rattle.nc_cloud.proofs.Images.{leaves_image, leaves_written}
 use Rattle.nc_cloud.proofs.Decisions.{caused, ascend_kept, once, done_counts}
+use Rattle.nc_cloud.proofs.Time.{stops_round}
 use Rattle.nc_cloud.proofs.deciding.write_round.Goals as goal
 
 pub put_round-requires-clause-below : goal.put_round-requires-clause-below
@@ -20,11 +21,17 @@ pub returns : goal.returns
 returns g c =
     let old = g.F.Fleet.held c.args.fleet.now in
     let new = g.F.Fleet.held c.put_round.new.self in
+    let image : g.F.Fleet.tells → Image (writes c.args.jobs.now) old new =
+    λ told. subst (λ (ps : List Write). Image ps old new) c.put_round.ensures.entries (leaves_image _ _ _ (c.put_round.ensures.told told)) in
     record {
       wrote = record {
         entries = c.put_round.ensures.entries;
         decides = c.written.ensures;
-        image = λ told. subst (λ (ps : List Write). Image ps old new) c.put_round.ensures.entries (leaves_image _ _ _ (c.put_round.ensures.told told));
+        image = image;
+        keeps = λ told. record {
+          here = image told;
+          stops = stops_round (Image (writes c.args.jobs.now) old) c.put_round.ensures.time c.put_round.ensures.past (λ G is. is);
+        };
         done = λ told.
             let turned : All (λ j. j.done ≡ done.Ok) c.put_round.new.jobs → Written (writes c.args.jobs.now) old new =
             λ ok. subst (λ (ps : List Write). Written ps old new) c.put_round.ensures.entries (leaves_written _ _ _ ok (c.put_round.ensures.told told)) in

@@ -1,6 +1,3 @@
-use Rattle.std.proofs.Common.{sym, subst, Result}
-use Rattle.std.specs.List.{Contains}
-use Rattle.nc_name.specs.declared.key.Key.{Key}
 use Rattle.nc_memory.proofs.SortLaws.{listed}
 use Rattle.nc_memory.proofs.store.keys_of.Goals as goal
 

@@ -6,17 +6,17 @@ use Rattle.nc_memory.proofs.RecordLaws.{planted_failures, planted_gifts, planted
 use Rattle.nc_memory.proofs.memory.MemFleet.plant.Goals as goal
 
 -- the record, and with it what follows from it
-recorded : (c : goal.In_ok-push_event) → c.push_event.new.log.items ≡ c.args.self.now.log.items ++ Planted c.args.cloud c.args.key.now c.args.bytes.now ∷ []
-recorded c = c.in_ok-push_event.ensures.ok ∙ ap (λ b. c.args.self.now.log.items ++ Planted c.args.cloud c.args.key.now b ∷ []) c.in_ok-bytes.ensures
+recorded : (c : goal.In_ok-push) → c.push.new.self.events.items ≡ c.args.self.now.log.events.items ++ Planted c.args.cloud c.args.key.now c.args.bytes.now ∷ []
+recorded c = c.in_ok-push.ensures.ok ∙ ap (λ b. c.args.self.now.log.events.items ++ Planted c.args.cloud c.args.key.now b ∷ []) c.in_ok-bytes.ensures
 
 pub returns-clause-there : goal.returns-clause-there
-returns-clause-there c = ap (λ es. contents_after es nothing c.args.cloud c.args.key.now) (recorded c) ∙ planted_there c.args.self.now.log.items c.args.cloud c.args.key.now c.args.bytes.now
+returns-clause-there c = ap (λ es. contents_after es nothing c.args.cloud c.args.key.now) (recorded c) ∙ planted_there c.args.self.now.log.events.items c.args.cloud c.args.key.now c.args.bytes.now
 
 pub returns-clause-others : goal.returns-clause-others
-returns-clause-others c = λ k q other. ap (λ es. contents_after es nothing k q) (recorded c) ∙ planted_others c.args.self.now.log.items c.args.cloud c.args.key.now c.args.bytes.now k q other
+returns-clause-others c = λ k q other. ap (λ es. contents_after es nothing k q) (recorded c) ∙ planted_others c.args.self.now.log.events.items c.args.cloud c.args.key.now c.args.bytes.now k q other
 
 pub returns-clause-faults : goal.returns-clause-faults
-returns-clause-faults c = ap (λ es k. counted (failures es k)) (recorded c) ∙ (λ i k. counted (planted_failures c.args.self.now.log.items c.args.cloud c.args.key.now c.args.bytes.now k i))
+returns-clause-faults c = ap (λ es k. counted (failures es k)) (recorded c) ∙ (λ i k. counted (planted_failures c.args.self.now.log.events.items c.args.cloud c.args.key.now c.args.bytes.now k i))
 
 pub returns-clause-gets : goal.returns-clause-gets
-returns-clause-gets c = ap (λ es k. counted (gifts es k)) (recorded c) ∙ (λ i k. counted (planted_gifts c.args.self.now.log.items c.args.cloud c.args.key.now c.args.bytes.now k i))
+returns-clause-gets c = ap (λ es k. counted (gifts es k)) (recorded c) ∙ (λ i k. counted (planted_gifts c.args.self.now.log.events.items c.args.cloud c.args.key.now c.args.bytes.now k i))

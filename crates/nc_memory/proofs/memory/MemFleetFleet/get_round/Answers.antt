@@ -1,4 +1,5 @@
 use Rattle.nc_memory.proofs.Serves.{gets_entries, gets_answered, gets_told, gets_failed, gets_exactly, gets_held, gets_grows, gets_given_all}
+use Rattle.nc_memory.proofs.PastLaws.{gets_past, gets_time}
 use Rattle.nc_memory.proofs.memory.MemFleetFleet.get_round.Goals as goal
 
 pub returns-clause-entries : goal.returns-clause-entries
@@ -24,3 +25,9 @@ returns-clause-grows c = gets_grows c.serve_gets.ensures
 
 pub returns-clause-gets : goal.returns-clause-gets
 returns-clause-gets c = gets_given_all c.serve_gets.ensures
+
+pub returns-clause-time : goal.returns-clause-time
+returns-clause-time c = gets_time c.serve_gets.ensures
+
+pub returns-clause-past : goal.returns-clause-past
+returns-clause-past c = gets_past c.serve_gets.ensures
