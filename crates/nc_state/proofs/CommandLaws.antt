@@ -1,5 +1,6 @@
 -- Commands, round by round.
-use Rattle.std.proofs.Common.{◌≡◌, ◌+◌, ℕ, Bool, true, false, if◌then◌else◌, Option, None, Some, List, inl, inr, refl, sym, ap, ◌∙◌, subst, arith}
+use Rattle.std.proofs.Common.{◌≡◌, ◌+◌, ◌<◌, ◌≤◌, ℕ, Bool, true, false, if◌then◌else◌, Option, None, Some, List, inl, inr, refl, sym, ap, ◌∙◌, subst, arith}
+use Rattle.std.specs.Option.{option_map_or}
 use Rattle.std.specs.Str.{bytes_eq}
 use Rattle.std.proofs.lemmas.Slice.Eq.{bytes_eq-Decides}
 use Rattle.nc_meta.specs.declared.meta.Meta.{Meta}
@@ -7,14 +8,17 @@ use Rattle.nc_cloud.specs.Contents.{Contents}
 use Rattle.nc_name.specs.Names.{IsName}
 use Rattle.nc_state.specs.Clouds.{Clouds}
 use Rattle.nc_state.specs.Versions.{Version, meta_of, version_generation}
-use Rattle.nc_state.specs.Holding.{AllHold, HoldsIfAny, NoneAbove}
+use Rattle.nc_state.specs.Holding.{AllHold, HeldByAll, Holds, HoldsIfAny, IsSettledOn, NoneAbove}
 use Rattle.nc_state.specs.Entries.{Entry, HasEntry}
 use Rattle.nc_state.specs.Entries.Entry.{Rest, Opened}
 use Rattle.nc_state.specs.Weighing.{after, all_outside_hold, settled, some_holds, weigh}
 use Rattle.nc_state.specs.Standing.{Entries, Stands, with_entry}
-use Rattle.nc_state.specs.Commands.{IsNext, MetasWritten, NothingToSettle, RestsAfter, RestsAt, Settling, StaysAtRest}
+use Rattle.nc_state.specs.Commands.{IsNext, MetasWritten, NothingMadeYet, NothingToSettle, RestsAfter, RestsAt, SettledIsTop, Settling, StaysAtRest}
 use Rattle.nc_state.specs.Laws.{AtRestIsAfter, EntriesAgree, NotBegun}
 use Rattle.nc_state.proofs.Weighs.{choice, held_outside, open_settled, settled_weighs, weighs_itself}
+use Rattle.nc_meta.specs.Metas.{generation_of}
+use Rattle.nc_state.proofs.Held.{no_meta_held}
+use Rattle.nc_state.proofs.MetaWrites.{generation_is}
 use Rattle.nc_state.proofs.AfterLaws.{after_settling, held_rests, unwritten_weighs, written_rests}
 use Rattle.nc_state.proofs.RestingLaw.{resting_round_keeps}
 use Rattle.nc_state.proofs.MetaLaws.{meta_round_keeps, settle_round_keeps}
@@ -151,3 +155,31 @@ metas_written n F H G S D name y m is stands rests next of_y places image =
       now,
       λ all. rests_at S name y is (stands_with S name (after n F G D name (S name) (Some y)) (Rest y) (written_rests n F G D name (S name) y stands.wide next.0 all) now) all,
     )
+
+pub nothing_made_yet : NothingMadeYet
+nothing_made_yet n F S D name is stands =
+    stands_with S name (S name) (weigh n F D name (S name)) (sym (weighs_itself n F D name (S name) (stands.entries name is)))
+    (subst (λ (T : Entries). Stands n F T D) (sym (entry_same S name)) stands)
+
+-- a meta that all clouds hold, beside what each holds of a version at rest
+meta_at_rest : (n : ℕ) (H : Contents) (S : Entries) (D : Clouds) (name : List ℕ) (x : Version) (m : Meta) → RestsAt n H S D name x → HeldByAll n H name m
+    → (o : Option Meta) → meta_of x ≡ o → HoldsIfAny n H name 0 o → meta_of x ≡ Some m
+meta_at_rest n H S D name x m r all None is held =
+    let first : 0 < n = let wide = r.stands.wide in omega arith in
+    let here : Holds n H name 0 m = all.each 0 first in
+    let low : generation_of m ≤ version_generation x = r.rests.none_above 0 m first here in
+    let none : version_generation x ≡ 0 = ap (λ (k : Option Meta). option_map_or generation_of k 0) is in
+    r.rests.one_meta 0 m first here (omega (arith, low, none))
+meta_at_rest n H S D name x m r all (Some k) is held =
+    let first : 0 < n = let wide = r.stands.wide in omega arith in
+    let here : Holds n H name 0 m = all.each 0 first in
+    let low : generation_of m ≤ version_generation x = r.rests.none_above 0 m first here in
+    let high : generation_of k ≤ generation_of m = all.highest 0 k first held in
+    let top : version_generation x ≡ generation_of k = generation_is x k is in
+    r.rests.one_meta 0 m first here (omega (arith, low, high, top))
+
+pub settled_is_top : SettledIsTop
+settled_is_top n H S D name x None r on =
+    no_meta_held n H name 0 (meta_of x) (λ m h. on.none 0 m (let wide = r.stands.wide in omega arith) h) (r.held 0 (let wide = r.stands.wide in omega arith))
+settled_is_top n H S D name x (Some m) r on =
+    meta_at_rest n H S D name x m r on (meta_of x) refl (r.held 0 (let wide = r.stands.wide in omega arith))

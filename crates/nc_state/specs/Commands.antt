@@ -5,7 +5,7 @@ use Rattle.nc_meta.specs.declared.meta.Meta.{Meta}
 use Rattle.nc_cloud.specs.Contents.{Contents}
 use Rattle.nc_state.specs.Clouds.{Clouds}
 use Rattle.nc_state.specs.Versions.{Version, IsValid, meta_of, version_generation}
-use Rattle.nc_state.specs.Holding.{AllHold}
+use Rattle.nc_state.specs.Holding.{AllHold, IsSettledOn}
 use Rattle.nc_state.specs.Right.{PlacesStand}
 use Rattle.nc_state.specs.Entries.{Rests}
 use Rattle.nc_state.specs.Entries.Entry.{Rest}
@@ -57,3 +57,12 @@ abbrev pub RestsAfter : Type 0
 RestsAfter = (n : ℕ) (F G : Contents) (S : Entries) (D : Clouds) (name : List ℕ) (z : Version) (made : Option Version)
     → IsName name → Stands n F S D → RestsAt n G S D name z → IsNext n (settled n F name (S name)) made
     → (z ≡ settled n F name (S name)) ⊎ (made ≡ Some z) → StandsAfter n F G S D name made
+
+-- a command that has done nothing has made no version
+abbrev pub NothingMadeYet : Type 0
+NothingMadeYet = (n : ℕ) (F : Contents) (S : Entries) (D : Clouds) (name : List ℕ) → IsName name → Stands n F S D → StandsAfter n F F S D name None
+
+-- the metadata that all clouds hold of a name at rest is that of its version
+abbrev pub SettledIsTop : Type 0
+SettledIsTop = (n : ℕ) (H : Contents) (S : Entries) (D : Clouds) (name : List ℕ) (x : Version) (top : Option Meta)
+    → RestsAt n H S D name x → IsSettledOn n H name top → meta_of x ≡ top

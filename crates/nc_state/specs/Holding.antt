@@ -1,5 +1,5 @@
 -- Which metas clouds hold.
-use Rattle.std.specs.Prelude.{ℕ, ◌≡◌, ◌<◌, ◌≤◌, ◌%◌, Bool, true, false, Option, None, Some, List}
+use Rattle.std.specs.Prelude.{ℕ, ◌≡◌, ◌≢◌, ◌<◌, ◌≤◌, ◌%◌, Bool, true, false, Option, None, Some, List}
 use Rattle.std.specs.Str.{bytes_eq}
 use Rattle.nc_name.specs.declared.key.Key.{Key}
 use Rattle.nc_name.specs.declared.key.Key.TheVariants as key
@@ -63,6 +63,44 @@ pub record IsTop (n : ℕ) (F : Contents) (name : List ℕ) (m : Meta) : Type 0 
   pub in_width : cloud < n
   pub held : Holds n F name cloud m
   pub highest : (c : ℕ) (k : Meta) → c < n → Holds n F name c k → generation_of k ≤ generation_of m
+
+-- no cloud holds a meta of the name
+pub record HeldByNone (n : ℕ) (F : Contents) (name : List ℕ) : Type 0 where
+  pub none : (c : ℕ) (m : Meta) → c < n → Holds n F name c m → ⊥
+
+-- every cloud holds this meta, and none a higher one
+pub record HeldByAll (n : ℕ) (F : Contents) (name : List ℕ) (m : Meta) : Type 0 where
+  pub each : (c : ℕ) → c < n → Holds n F name c m
+  pub highest : (c : ℕ) (k : Meta) → c < n → Holds n F name c k → generation_of k ≤ generation_of m
+
+-- all clouds hold this meta, where there is one, and none a higher one
+abbrev pub IsSettledOn : ℕ → Contents → List ℕ → Option Meta → Type 0
+IsSettledOn n F name None = HeldByNone n F name
+IsSettledOn n F name (Some m) = HeldByAll n F name m
+
+-- some cloud holds this meta, where there is one, and none a higher one
+abbrev pub IsTopOrNone : ℕ → Contents → List ℕ → Option Meta → Type 0
+IsTopOrNone n F name None = HeldByNone n F name
+IsTopOrNone n F name (Some m) = IsTop n F name m
+
+-- each meta of the generation of m that a cloud holds is m
+pub record Undisputed (n : ℕ) (F : Contents) (name : List ℕ) (m : Meta) : Type 0 where
+  pub same : (c : ℕ) (o : Meta) → c < n → Holds n F name c o → generation_of o ≡ generation_of m → o ≡ m
+
+-- Two metas of the highest generation differ: a is the least cloud that holds one, b the least that holds another than a's.
+pub record IsDisputed (n : ℕ) (F : Contents) (name : List ℕ) (generation a b : ℕ) : Type 0 where
+  pub meta : Meta
+  pub other : Meta
+  pub is_generation : generation_of meta ≡ generation
+  pub same_generation : generation_of other ≡ generation
+  pub differ : other ≢ meta
+  pub a_in_width : a < n
+  pub b_in_width : b < n
+  pub a_holds : Holds n F name a meta
+  pub b_holds : Holds n F name b other
+  pub highest : (c : ℕ) (o : Meta) → c < n → Holds n F name c o → generation_of o ≤ generation
+  pub before_a : (c : ℕ) (o : Meta) → c < a → Holds n F name c o → generation_of o < generation
+  pub before_b : (c : ℕ) (o : Meta) → c < b → Holds n F name c o → generation_of o ≡ generation → o ≡ meta
 
 -- ---- the same as a test
 

@@ -12,3 +12,4 @@ pub mod Mending
 pub mod Laws
 pub mod ChunkLaws
 pub mod Commands
+pub mod Vaults

@@ -1,7 +1,7 @@
 //! Laws of what stands. Each function does nothing; its contract is the law.
 
 ghost use Rattle.nc_state.specs.ChunkLaws.{ChunksStay, FreeSlotIsFree, MendedIsFree, MendedIsValid, MendedKeepsChunks, MetasKeepChunks, NewPlacesStand, NothingToBeRight, OnlyRightIsSealed, RightIsMarked, UntouchedStays, WrongIsDamaged};
-ghost use Rattle.nc_state.specs.Commands.{MetasWritten, NothingToSettle, RestsAfter, Settling, StaysAtRest};
+ghost use Rattle.nc_state.specs.Commands.{MetasWritten, NothingMadeYet, NothingToSettle, RestsAfter, SettledIsTop, Settling, StaysAtRest};
 ghost use Rattle.nc_state.specs.Laws.{AtRestIsAfter, EmptyStands, EntriesAgree, HealedStands, HeldIsSealed, LossKeeps, NoneMisplaced, NotBegun, RoundIsImage, SealedIsObject, SeenIsShown, StepSettlesOn, TwoAtMost, UnlistedIsShown, UnlistedRests};
 
 /// Clouds without objects stand for no names.
@@ -162,4 +162,14 @@ pub fn right_is_marked()
 /// Where a chunk isn't right, its cloud is damaged.
 pub fn wrong_is_damaged()
     ensures { WrongIsDamaged }
+{}
+
+/// A command that has done nothing has made no version.
+pub fn nothing_made_yet()
+    ensures { NothingMadeYet }
+{}
+
+/// The metadata that all clouds hold of a name at rest is that of its version.
+pub fn settled_is_top()
+    ensures { SettledIsTop }
 {}
