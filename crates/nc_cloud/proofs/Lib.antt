@@ -7,6 +7,7 @@ mod KeyOrder
 pub mod Keys
 pub mod Rounds
 mod SeatLaws
+pub mod SomeRows
 mod SortLaws
 pub mod Served
 pub mod Time

@@ -1,3 +1,4 @@
+pub mod Alone
 pub mod CloudSets
 pub mod Wholes
 pub mod Held
