@@ -1,6 +1,7 @@
 -- What a view shows is what the clouds hold.
 use Rattle.std.proofs.Common.{◌≡◌, ◌<◌, ◌≤◌, ℕ, List, inl, inr, ◌∙◌, subst, arith, Err}
 use Rattle.nc_code.specs.Codes.{IsMds}
+use Rattle.nc_name.specs.Names.{IsName}
 use Rattle.nc_cloud.specs.Contents.{Contents, Rose, Grows}
 use Rattle.nc_meta.specs.declared.meta.Live.{Live as LiveMeta}
 use Rattle.nc_meta.specs.declared.meta.Meta.TheVariants.{Live, Gone}
@@ -15,23 +16,23 @@ use Rattle.nc_download.specs.declared.short.Bad.{Bad}
 use Rattle.nc_download.specs.declared.fetching.FetchFault.{FetchFault}
 use Rattle.nc_download.specs.declared.fetching.FetchFault.TheVariants.{NoFile, Cloud, Short, Conflict, Misplaced, Unsound, Memory}
 
-module _ (n : ℕ) (name : List ℕ) (F : Contents) (v : Places) (wide : 4 ≤ n) (narrow : n ≤ 10) (sees : Sees n name F v) (width : HasWidth n v) where
+module _ (n : ℕ) (name : List ℕ) (F : Contents) (v : Places) (wide : 4 ≤ n) (narrow : n ≤ 10) (is_name : IsName name) (sees : Sees n name F v) (width : HasWidth n v) where
   pub shown_held : (live : LiveMeta) → ShowsFile v live → Shown n name F live
   shown_held live s = record {
-    highest = top_is_highest n name F v wide narrow sees width.first s.answered s.cloud (Live live) s.top;
-    undisputed = undisputed n name F v wide narrow sees width.first s.answered s.settled s.cloud (Live live) s.top;
+    highest = top_is_highest n name F v wide narrow is_name sees width.first s.answered s.cloud (Live live) s.top;
+    undisputed = undisputed n name F v wide narrow is_name sees width.first s.answered s.settled s.cloud (Live live) s.top;
   }
 
   pub refused_held : (fault : FetchFault) → SeesNoFile v fault → Fetches n name F (Err fault)
   refused_held (Cloud c) is = tt
-  refused_held NoFile (inl none) = inl (none_held n name F v wide narrow sees width.first none.0.answered none.0.none, nothing_misplaced n name F v wide narrow sees width.first none.0.answered none.1)
+  refused_held NoFile (inl none) = inl (none_held n name F v wide narrow is_name sees width.first none.0.answered none.0.none, nothing_misplaced n name F v wide narrow is_name sees width.first none.0.answered none.1)
   refused_held NoFile (inr gone) = inr (record {
     generation = gone.generation;
-    highest = top_is_highest n name F v wide narrow sees width.first gone.answered gone.cloud (Gone gone.generation) gone.top;
-    undisputed = undisputed n name F v wide narrow sees width.first gone.answered gone.settled gone.cloud (Gone gone.generation) gone.top;
+    highest = top_is_highest n name F v wide narrow is_name sees width.first gone.answered gone.cloud (Gone gone.generation) gone.top;
+    undisputed = undisputed n name F v wide narrow is_name sees width.first gone.answered gone.settled gone.cloud (Gone gone.generation) gone.top;
   })
-  refused_held (Misplaced c a b) is = (none_held n name F v wide narrow sees width.first is.0.answered is.0.none, least_misplaced_held n name F v wide narrow sees width.first is.0.answered c a b is.1)
-  refused_held (Conflict g a b) is = disputed n name F v wide narrow sees width.first is.0 g a b is.1
+  refused_held (Misplaced c a b) is = (none_held n name F v wide narrow is_name sees width.first is.0.answered is.0.none, least_misplaced_held n name F v wide narrow is_name sees width.first is.0.answered c a b is.1)
+  refused_held (Conflict g a b) is = disputed n name F v wide narrow is_name sees width.first is.0 g a b is.1
   refused_held (Short bads) is = absurd is
   refused_held (Unsound a b) is = absurd is
   refused_held Memory is = absurd is

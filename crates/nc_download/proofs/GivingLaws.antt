@@ -8,7 +8,7 @@ use Rattle.nc_mds.proofs.Shown.{first_not_mds}
 use Rattle.nc_meta.specs.declared.meta.Meta.{Meta}
 use Rattle.nc_meta.specs.declared.meta.Meta.TheVariants.{Live, Gone}
 use Rattle.nc_meta.specs.declared.meta.Live.{Live as LiveMeta}
-use Rattle.nc_settle.specs.Holding.{HoldsMeta}
+use Rattle.nc_state.specs.Holding.{Holds}
 use Rattle.nc_download.specs.Reading.{AreTooMany, SoundFor}
 use Rattle.nc_download.specs.Fetching.{Shown, Fetches}
 use Rattle.nc_download.specs.Giving.{IsHeld, GivesFile}
@@ -32,7 +32,7 @@ gone_is_not_live generation m same = subst (λ (o : Meta). IsGone o) same tt
 
 module _ (n : ℕ) (name : List ℕ) (m : LiveMeta) (v : List ℕ) (F : Contents) (wide : 4 ≤ n) (narrow : n ≤ 10) (is : IsHeld n name m v F) where
   -- of three clouds one is neither of two, so some cloud holds it
-  some_cloud : ((c : ℕ) → c < n → HoldsMeta n name F c (Live m) → ⊥) → ⊥
+  some_cloud : ((c : ℕ) → c < n → Holds n F name c (Live m) → ⊥) → ⊥
   some_cloud none = elim (cases_eq 0 is.first) [
     | inl a ↦ elim (cases_eq 1 is.second) [
       | inl b ↦ none 2 (omega (arith, wide)) (is.holds 2 (omega (arith, wide)) (λ e. absurd (omega arith)) (λ e. absurd (omega arith)))
@@ -49,7 +49,7 @@ module _ (n : ℕ) (name : List ℕ) (m : LiveMeta) (v : List ℕ) (F : Contents
 
   -- so the file that is shown is this one
   shown_is : (live : LiveMeta) → Shown n name F live → live ≡ m
-  shown_is live shown = same_live live m (is.only shown.highest.cloud (Live live) shown.highest.in_width shown.highest.holds)
+  shown_is live shown = same_live live m (is.only shown.highest.cloud (Live live) shown.highest.in_width shown.highest.held)
 
   pub gives : (result : Result (List ℕ) FetchFault) → Fetches n name F result → GivesFile v result
   gives (Ok file) back =
@@ -58,7 +58,7 @@ module _ (n : ℕ) (name : List ℕ) (m : LiveMeta) (v : List ℕ) (F : Contents
   gives (Err (Cloud c)) told = tt
   gives (Err Memory) told = tt
   gives (Err NoFile) (inl none) = some_cloud (λ d l holds. none.0.none d (Live m) l holds)
-  gives (Err NoFile) (inr gone) = gone_is_not_live gone.generation m (is.only gone.highest.cloud (Gone gone.generation) gone.highest.in_width gone.highest.holds)
+  gives (Err NoFile) (inr gone) = gone_is_not_live gone.generation m (is.only gone.highest.cloud (Gone gone.generation) gone.highest.in_width gone.highest.held)
   gives (Err (Misplaced c a b)) told = some_cloud (λ d l holds. told.0.none d (Live m) l holds)
   gives (Err (Conflict g a b)) told = told.differ (is.only b told.other told.b_in_width told.b_holds ∙ sym (is.only a told.meta told.a_in_width told.a_holds))
   gives (Err (Unsound a b)) told = first_not_mds told.meta.code a b told.kernel told.first (subst (λ (k : LiveMeta). IsMds k.code) (sym (shown_is told.meta told.shown)) is.mds)

@@ -6,7 +6,8 @@ use Rattle.nc_cloud.specs.Contents.{Contents, Rose}
 use Rattle.nc_mds.specs.Verdicts.{IsFirstPair}
 use Rattle.nc_meta.specs.declared.meta.Live.{Live as LiveMeta}
 use Rattle.nc_meta.specs.declared.meta.Meta.TheVariants.{Live, Gone}
-use Rattle.nc_settle.specs.Holding.{NoneSealed, NothingMisplaced, LeastMisplaced, IsHighest, Undisputed, IsDisputed}
+use Rattle.nc_state.specs.Holding.{HeldByNone, IsTop, Undisputed, IsDisputed}
+use Rattle.nc_settle.specs.Elsewhere.{NothingMisplaced, LeastMisplaced}
 use Rattle.nc_download.specs.Reading.{ComesFrom, AreTooMany}
 use Rattle.nc_download.specs.declared.short.Bad.{Bad}
 use Rattle.nc_download.specs.declared.fetching.FetchFault.{FetchFault}
@@ -14,14 +15,14 @@ use Rattle.nc_download.specs.declared.fetching.FetchFault.TheVariants as fault
 
 -- the live metadata of the highest generation, where no cloud holds another of that generation
 pub record Shown (n : ℕ) (name : List ℕ) (F : Contents) (m : LiveMeta) : Type 0 where
-  pub highest : IsHighest n name F (Live m)
-  pub undisputed : Undisputed n name F (Live m)
+  pub highest : IsTop n F name (Live m)
+  pub undisputed : Undisputed n F name (Live m)
 
 -- the newest metadata says that the file was deleted
 pub record IsDeleted (n : ℕ) (name : List ℕ) (F : Contents) : Type 0 where
   pub generation : ℕ
-  pub highest : IsHighest n name F (Gone generation)
-  pub undisputed : Undisputed n name F (Gone generation)
+  pub highest : IsTop n F name (Gone generation)
+  pub undisputed : Undisputed n F name (Gone generation)
 
 -- the file that is shown comes back: its code is MDS, and it comes from the first good clouds
 pub record ComesBack (n : ℕ) (name : List ℕ) (F : Contents) (file : List ℕ) : Type 0 where
@@ -47,9 +48,9 @@ pub record IsShortOf (n : ℕ) (name : List ℕ) (F : Contents) (bads : List Bad
 -- the answer, by what the clouds hold
 abbrev pub Fetches : ℕ → List ℕ → Contents → Result (List ℕ) FetchFault → Type 0
 Fetches n name F (Ok file) = ComesBack n name F file
-Fetches n name F (Err fault.NoFile) = (NoneSealed n name F × NothingMisplaced n name F) ⊎ IsDeleted n name F
-Fetches n name F (Err (fault.Misplaced c a b)) = NoneSealed n name F × LeastMisplaced n name F c a b
-Fetches n name F (Err (fault.Conflict g a b)) = IsDisputed n name F g a b
+Fetches n name F (Err fault.NoFile) = (HeldByNone n F name × NothingMisplaced n name F) ⊎ IsDeleted n name F
+Fetches n name F (Err (fault.Misplaced c a b)) = HeldByNone n F name × LeastMisplaced n name F c a b
+Fetches n name F (Err (fault.Conflict g a b)) = IsDisputed n F name g a b
 Fetches n name F (Err (fault.Unsound a b)) = IsUnsound n name F a b
 Fetches n name F (Err (fault.Short bads)) = IsShortOf n name F bads
 Fetches n name F (Err (fault.Cloud c)) = Unit {0}

@@ -3,7 +3,7 @@ use Rattle.std.specs.Prelude.{ℕ, ◌⊎◌}
 use Rattle.nc_meta.specs.declared.meta.Live.{Live as LiveMeta}
 use Rattle.nc_meta.specs.declared.meta.Meta.TheVariants.{Live, Gone}
 use Rattle.nc_settle.specs.Views.{Places}
-use Rattle.nc_settle.specs.Decisions.{NoneFailed, IsLeastFailed, NoneMisplaced, IsLeastMisplaced, SeesNone, IsTop, IsConflict, NoConflict}
+use Rattle.nc_settle.specs.Decisions.{NoneFailed, IsLeastFailed, NoneMisplaced, IsLeastMisplaced, SeesNone, SeesTop, IsConflict, NoConflict}
 use Rattle.nc_download.specs.declared.fetching.FetchFault.{FetchFault}
 use Rattle.nc_download.specs.declared.fetching.FetchFault.TheVariants.{NoFile, Cloud, Conflict, Misplaced}
 
@@ -11,7 +11,7 @@ use Rattle.nc_download.specs.declared.fetching.FetchFault.TheVariants.{NoFile, C
 pub record ShowsFile (v : Places) (live : LiveMeta) : Type 0 where
   pub answered : NoneFailed v
   pub cloud : ℕ
-  pub top : IsTop v cloud (Live live)
+  pub top : SeesTop v cloud (Live live)
   pub settled : NoConflict v
 
 -- all clouds answered, and the highest metadata says that the file was deleted
@@ -19,7 +19,7 @@ pub record ShowsDeleted (v : Places) : Type 0 where
   pub answered : NoneFailed v
   pub generation : ℕ
   pub cloud : ℕ
-  pub top : IsTop v cloud (Gone generation)
+  pub top : SeesTop v cloud (Gone generation)
   pub settled : NoConflict v
 
 -- all clouds answered, and no cloud holds metadata of its own

@@ -1,3 +1,4 @@
+pub mod HeldMetas
 pub mod Judgements
 pub mod Views
 pub mod Looks

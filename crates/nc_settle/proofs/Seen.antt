@@ -3,18 +3,21 @@ use Rattle.std.proofs.Common.{ℕ, ◌≡◌, ◌≢◌, ◌<◌, ◌≤◌, ◌
 use Rattle.std.proofs.lemmas.Bool.{cases_Bool, cases_lt}
 use Rattle.std.proofs.lemmas.List.{get_or_past}
 use Rattle.nc_name.specs.declared.key.Key.TheVariants as key
+use Rattle.nc_name.specs.Names.{IsName}
 use Rattle.nc_frame.proofs.Shapes.{same_parts}
 use Rattle.nc_meta.specs.declared.meta.Meta.{Meta}
 use Rattle.nc_meta.specs.Metas.{IsMeta, Spells, generation_of}
 use Rattle.nc_meta.proofs.OneSpelling.{one_spelling}
 use Rattle.nc_cloud.specs.Contents.{Contents, Rose}
+use Rattle.nc_state.specs.Holding.{Holds, HeldByNone, IsTop, Undisputed, IsDisputed}
 use Rattle.nc_settle.specs.declared.place.Place.{Place}
 use Rattle.nc_settle.specs.declared.place.Place.TheVariants as place
 use Rattle.nc_settle.specs.Views.{Places, place_at, width_of}
 use Rattle.nc_settle.specs.Judging.{SealedMeta, HasMetaOf, IsOfElsewhere, IsPlaceOf}
 use Rattle.nc_settle.specs.Looking.{Sees, HasWidth, HasMetas, FailuresRose, OnlyFailuresRose}
-use Rattle.nc_settle.specs.Decisions.{HasSealed, IsConflict, IsLeastFailed, IsLeastMisplaced, IsTop, NoConflict, NoneFailed, NoneMisplaced, SeesNone}
-use Rattle.nc_settle.specs.Holding.{HoldsMeta, NoneSealed, IsHighest, Undisputed, IsDisputed, IsMisplacedAt, NothingMisplaced, LeastMisplaced}
+use Rattle.nc_settle.specs.Decisions.{HasSealed, IsConflict, IsLeastFailed, IsLeastMisplaced, SeesTop, NoConflict, NoneFailed, NoneMisplaced, SeesNone}
+use Rattle.nc_settle.specs.Elsewhere.{IsMisplacedAt, NothingMisplaced, LeastMisplaced}
+use Rattle.nc_settle.proofs.HeldMetas.{meta_held, stands_sealed}
 
 some_same : {A : Type 0} {x y : A} → Some x ≡ Some y → x ≡ y
 some_same e = cc
@@ -67,28 +70,29 @@ misplaced_place n name c slot held (place.Sealed m) bytes a b is stands short ot
     let same : is.0 ≡ bytes = some_same (sym is.1 ∙ stands) in
     absurd (not_both n name c slot bytes m a b (subst (λ (z : List ℕ). SealedMeta n name c slot z m) same is.3) other)
 
-parity_low : (k : ℕ) → k % 2 < 2
+pub parity_low : (k : ℕ) → k % 2 < 2
 parity_low k = omega arith
 
-module _ (n : ℕ) (name : List ℕ) (F : Contents) (v : Places) (wide : 4 ≤ n) (narrow : n ≤ 10) (sees : Sees n name F v) where
+module _ (n : ℕ) (name : List ℕ) (F : Contents) (v : Places) (wide : 4 ≤ n) (narrow : n ≤ 10) (valid : IsName name) (sees : Sees n name F v) where
   -- what was seen is held
-  pub seen_held : (c : ℕ) (m : Meta) → c < n → HasSealed v c m → HoldsMeta n name F c m
+  pub seen_held : (c : ℕ) (m : Meta) → c < n → HasSealed v c m → Holds n F name c m
   seen_held c m l has =
       let is : IsPlaceOf n name c has.slot (F c (key.Meta name has.slot)) (place.Sealed m) = subst (λ (p : Place). IsPlaceOf n name c has.slot (F c (key.Meta name has.slot)) p) has.sealed (sees.each c has.slot l has.in_pair) in
       let slot : has.slot ≡ generation_of m % 2 = sym is.3.parity in
-      record {
+      meta_held n F name wide narrow valid c m l (record {
         bytes = is.0;
         stands = subst (λ (s : ℕ). F c (key.Meta name s) ≡ Some is.0) slot is.1;
         is_sealed = subst (λ (s : ℕ). SealedMeta n name c s is.0 m) slot is.3;
-      }
+      })
 
   -- what is held was seen, where the place didn't fail
-  pub held_seen : (c : ℕ) (m : Meta) → c < n → HoldsMeta n name F c m → place_at v c (generation_of m % 2) ≢ place.Failed → HasSealed v c m
-  held_seen c m l holds fine = record {
-    slot = generation_of m % 2;
-    in_pair = parity_low (generation_of m);
-    sealed = sealed_place n name c (generation_of m % 2) _ _ holds.bytes m wide narrow (sees.each c (generation_of m % 2) l (parity_low (generation_of m))) holds.stands holds.is_sealed fine;
-  }
+  held_at : (c : ℕ) (m : Meta) → c < n → Holds n F name c m → place_at v c (generation_of m % 2) ≢ place.Failed → place_at v c (generation_of m % 2) ≡ place.Sealed m
+  held_at c m l holds fine =
+      let s = stands_sealed n F name wide narrow valid c m l holds in
+      sealed_place n name c (generation_of m % 2) _ _ s.bytes m wide narrow (sees.each c (generation_of m % 2) l (parity_low (generation_of m))) s.stands s.is_sealed fine
+
+  pub held_seen : (c : ℕ) (m : Meta) → c < n → Holds n F name c m → place_at v c (generation_of m % 2) ≢ place.Failed → HasSealed v c m
+  held_seen c m l holds fine = record { slot = generation_of m % 2; in_pair = parity_low (generation_of m); sealed = held_at c m l holds fine }
 
   pub misplaced_held : (c slot a b : ℕ) → c < n → slot < 2 → place_at v c slot ≡ place.Misplaced a b → IsMisplacedAt n name F c slot a b
   misplaced_held c slot a b l low e =
@@ -103,24 +107,27 @@ module _ (n : ℕ) (name : List ℕ) (F : Contents) (v : Places) (wide : 4 ≤ n
     fine : (c slot : ℕ) → c < n → slot < 2 → place_at v c slot ≢ place.Failed
     fine c slot l low e = none_failed c (omega (arith, width)) (record { slot = slot; in_pair = low; failed = e })
 
-    pub all_seen : (c : ℕ) (m : Meta) → c < n → HoldsMeta n name F c m → HasSealed v c m
+    pub seen_at : (c : ℕ) (m : Meta) → c < n → Holds n F name c m → place_at v c (generation_of m % 2) ≡ place.Sealed m
+    seen_at c m l holds = held_at c m l holds (fine c (generation_of m % 2) l (parity_low (generation_of m)))
+
+    pub all_seen : (c : ℕ) (m : Meta) → c < n → Holds n F name c m → HasSealed v c m
     all_seen c m l holds = held_seen c m l holds (fine c (generation_of m % 2) l (parity_low (generation_of m)))
 
-    pub none_held : SeesNone v → NoneSealed n name F
+    pub none_held : SeesNone v → HeldByNone n F name
     none_held none = record { none = λ c m l holds. none c m (omega (arith, width)) (all_seen c m l holds) }
 
-    pub top_is_highest : (c : ℕ) (m : Meta) → IsTop v c m → IsHighest n name F m
+    pub top_is_highest : (c : ℕ) (m : Meta) → SeesTop v c m → IsTop n F name m
     top_is_highest c m top = record {
       cloud = c;
       in_width = omega (arith, width, top.in_width);
-      holds = seen_held c m (omega (arith, width, top.in_width)) top.has;
+      held = seen_held c m (omega (arith, width, top.in_width)) top.has;
       highest = λ d o l holds. top.highest d o (omega (arith, width)) (all_seen d o l holds);
     }
 
-    pub undisputed : NoConflict v → (c : ℕ) (m : Meta) → IsTop v c m → Undisputed n name F m
+    pub undisputed : NoConflict v → (c : ℕ) (m : Meta) → SeesTop v c m → Undisputed n F name m
     undisputed none c m top = record { same = λ d o l holds. none c d m top (omega (arith, width)) o (all_seen d o l holds) }
 
-    pub disputed : (generation a b : ℕ) → IsConflict v generation a b → IsDisputed n name F generation a b
+    pub disputed : (generation a b : ℕ) → IsConflict v generation a b → IsDisputed n F name generation a b
     disputed generation a b is =
         let a_low : a < n = omega (arith, width, is.top.in_width) in
         let b_low : b < n = omega (arith, width, is.in_width) in

@@ -6,7 +6,7 @@ use Rattle.nc_meta.specs.declared.meta.Meta.{Meta}
 use Rattle.nc_meta.specs.Metas.{generation_of}
 use Rattle.nc_settle.specs.declared.deciding.Top.{Top}
 use Rattle.nc_settle.specs.Views.{Places, width_of}
-use Rattle.nc_settle.specs.Decisions.{AgreesOn, HasMisplaced, HasSealed, IsFromElsewhere, IsLeastMisplaced, IsTop, IsTopOf, NoConflict, SeesNoneOf}
+use Rattle.nc_settle.specs.Decisions.{AgreesOn, HasMisplaced, HasSealed, IsFromElsewhere, IsLeastMisplaced, SeesTop, IsTopOf, NoConflict, SeesNoneOf}
 use Rattle.nc_settle.specs.Tops.{IsBestOn, IsTopSoFar, top_after, top_at}
 
 pub none_weaker : {T P Q : Type 0} (o : Option T) → (P → Q) → IfNone o P → IfNone o Q
@@ -24,7 +24,7 @@ pub least_misplaced : (v : Places) (c d a b : ℕ) → d ≡ c → c < width_of 
 least_misplaced v c d a b same in_width from before = subst (λ (k : ℕ). IsLeastMisplaced v k a b) (sym same) (record { in_width = in_width; from = from; before = before })
 
 -- where all metas of the top's generation are the top, they are all one
-pub no_conflict : (v : Places) (t : ℕ) (top : Meta) → IsTop v t top → ((c : ℕ) → c < width_of v → AgreesOn v c top) → NoConflict v
+pub no_conflict : (v : Places) (t : ℕ) (top : Meta) → SeesTop v t top → ((c : ℕ) → c < width_of v → AgreesOn v c top) → NoConflict v
 no_conflict v t top is agree a c m also in_width o has same =
     let up : generation_of m ≤ generation_of top = is.highest a m also.in_width also.has in
     let down : generation_of top ≤ generation_of m = also.highest t top is.in_width is.has in

@@ -57,8 +57,8 @@ pub record IsTopOf (v : Places) (n c : ℕ) (m : Meta) : Type 0 where
   pub highest : (d : ℕ) (o : Meta) → d < n → HasSealed v d o → generation_of o ≤ generation_of m
   pub least : (d : ℕ) (o : Meta) → d < c → HasSealed v d o → generation_of o < generation_of m
 
-abbrev pub IsTop : Places → ℕ → Meta → Type 0
-IsTop v c m = IsTopOf v (width_of v) c m
+abbrev pub SeesTop : Places → ℕ → Meta → Type 0
+SeesTop v c m = IsTopOf v (width_of v) c m
 
 -- none of the first n clouds has a sealed meta
 abbrev pub SeesNoneOf : Places → ℕ → Type 0
@@ -81,7 +81,7 @@ AgreesOn v c m = (o : Meta) → HasSealed v c o → generation_of o ≡ generati
 -- Metas of the highest generation differ: a is the least cloud that has one, b the least that has another than a's.
 pub record IsConflict (v : Places) (generation a b : ℕ) : Type 0 where
   pub meta : Meta
-  pub top : IsTop v a meta
+  pub top : SeesTop v a meta
   pub is_generation : generation_of meta ≡ generation
   pub in_width : b < width_of v
   pub other : HasOther v b meta
@@ -89,7 +89,7 @@ pub record IsConflict (v : Places) (generation a b : ℕ) : Type 0 where
 
 -- there is only one meta of the highest generation
 abbrev pub NoConflict : Places → Type 0
-NoConflict v = (a c : ℕ) (m : Meta) → IsTop v a m → c < width_of v → AgreesOn v c m
+NoConflict v = (a c : ℕ) (m : Meta) → SeesTop v a m → c < width_of v → AgreesOn v c m
 
 -- what one place says
 

@@ -4,4 +4,4 @@ pub mod Rounds
 pub mod Looking
 pub mod Decisions
 pub mod Tops
-pub mod Holding
+pub mod Elsewhere

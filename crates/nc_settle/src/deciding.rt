@@ -2,7 +2,7 @@ ghost use Rattle.std.specs.Prelude.{◌≡◌, ◌≢◌, ◌↔◌, ◌<◌, �
 ghost use Rattle.nc_settle.specs.declared.place.Place.TheVariants.{Failed as FailedPlace, Misplaced as MisplacedPlace, Sealed as SealedPlace};
 ghost use Rattle.nc_meta.specs.declared.meta.Meta.{Meta as MetaValue};
 ghost use Rattle.nc_settle.specs.Views.{width_of};
-ghost use Rattle.nc_settle.specs.Decisions.{AgreesIn, AgreesOn, DiffersIn, HasFailed, HasMisplaced, HasOther, HasSealed, IsConflict, IsFromElsewhere, IsLeastFailed, IsLeastMisplaced, IsTop, NoConflict, NoneFailed, NoneMisplaced, SeesNone};
+ghost use Rattle.nc_settle.specs.Decisions.{AgreesIn, AgreesOn, DiffersIn, HasFailed, HasMisplaced, HasOther, HasSealed, IsConflict, IsFromElsewhere, IsLeastFailed, IsLeastMisplaced, SeesTop, NoConflict, NoneFailed, NoneMisplaced, SeesNone};
 ghost use Rattle.nc_settle.specs.Tops.{IsBestOn, top_after};
 
 use crate::place::Place;
@@ -88,7 +88,7 @@ impl View {
 
     /// The sealed meta of the highest generation, from the least cloud that has one of it.
     pub fn top(&self) -> Option<Top<'_>>
-        ensures some { IfSome result (λ t. IsTop self.now t.cloud t.meta.now) }
+        ensures some { IfSome result (λ t. SeesTop self.now t.cloud t.meta.now) }
         ensures none { IfNone result (SeesNone self.now) }
     {
         let mut top = None;
@@ -123,7 +123,7 @@ impl View {
     }
 
     fn conflict_with(&self, a: u8, meta: &Meta) -> Option<Conflict>
-        requires { IsTop self.now a meta.now }
+        requires { SeesTop self.now a meta.now }
         ensures some { IfSome result (λ k. IsConflict self.now k.generation k.a k.b) }
         ensures none { IfNone result ((c : ℕ) → c < width_of self.now → AgreesOn self.now c meta.now) }
     {

@@ -73,7 +73,7 @@ fn judge_payload(width: u8, slot: u8, payload: &[u8]) -> Place
 }
 
 /// Tells what the type of names keeps.
-fn told_name(name: &Name)
+pub(crate) fn told_name(name: &Name)
     ensures { IsName name.now }
 {
     let _bytes = name.bytes();

@@ -6,9 +6,11 @@ mod deciding;
 mod judging;
 mod looking;
 mod place;
+mod settled;
 mod view;
 
 pub use deciding::{Conflict, Misplaced, Top};
 pub use looking::look;
 pub use place::Place;
+pub use settled::Settled;
 pub use view::View;

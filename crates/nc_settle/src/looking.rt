@@ -4,8 +4,11 @@ ghost use Rattle.nc_cloud.specs.Rounds.{row};
 ghost use Rattle.nc_settle.specs.Rounds.{meta_ask};
 ghost use Rattle.nc_settle.specs.Looking.{FailuresRose, FailuresRoseIn, HasMetas, HasMetasIn, HasWidth, OnlyFailuresRose, OnlyFailuresRoseIn, Sees, SeesSlot};
 ghost use Rattle.nc_cloud.specs.Deciding.{OnlyLooked};
+ghost use Rattle.nc_cloud.specs.Stopping.{Stops};
+ghost use Rattle.nc_name.specs.Names.{IsName};
 
 use crate::asking::{asks_for, judge_all};
+use crate::judging::told_name;
 use crate::place::Place;
 use crate::view::View;
 use nc_cloud::{Ask, Fleet};
@@ -24,8 +27,11 @@ pub fn look<F: Fleet>(alloc: Global, fleet: &mut F, name: &Name) -> Result<View,
     ensures failed { IfOk result (FailuresRose (F.clouds fleet.old) (F.faults fleet.old) (F.faults fleet.new)) }
     ensures exact { F.counts_exactly → IfOk result (OnlyFailuresRose (F.faults fleet.old) (F.faults fleet.new)) }
     ensures looked { OnlyLooked F.Fleet fleet.old fleet.new }
+    ensures stops { Stops F.Fleet fleet.old fleet.new (λ G. G ≡ F.held fleet.old) }
     ensures gets { (c : ℕ) → F.chunk_gets fleet.new c ≡ F.chunk_gets fleet.old c }
+    ensures valid { IsName name.now }
 {
+    told_name(name);
     let width = fleet.width() as u8;
     let mut zeros = asks_for(alloc, width, name, 0)?;
     let first = ask_all(alloc, fleet, name, 0, &mut zeros)?;
@@ -53,6 +59,7 @@ fn ask_all<F: Fleet>(
     ensures failed { IfOk result (λ places. FailuresRoseIn (F.clouds fleet.old) (F.faults fleet.old) (F.faults fleet.new) places.items) }
     ensures exact { F.counts_exactly → IfOk result (λ places. OnlyFailuresRoseIn (F.faults fleet.old) (F.faults fleet.new) places.items) }
     ensures looked { OnlyLooked F.Fleet fleet.old fleet.new }
+    ensures stops { Stops F.Fleet fleet.old fleet.new (λ G. G ≡ F.held fleet.old) }
     ensures gets { (c : ℕ) → F.chunk_gets fleet.new c ≡ F.chunk_gets fleet.old c }
 {
     let width = fleet.width() as u8;

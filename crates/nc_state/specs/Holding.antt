@@ -1,5 +1,6 @@
 -- Which metas clouds hold.
 use Rattle.std.specs.Prelude.{ℕ, ◌≡◌, ◌≢◌, ◌<◌, ◌≤◌, ◌%◌, Bool, true, false, Option, None, Some, List}
+use Rattle.std.specs.Option.{option_map_or}
 use Rattle.std.specs.Str.{bytes_eq}
 use Rattle.nc_name.specs.declared.key.Key.{Key}
 use Rattle.nc_name.specs.declared.key.Key.TheVariants as key
@@ -72,6 +73,10 @@ pub record HeldByNone (n : ℕ) (F : Contents) (name : List ℕ) : Type 0 where
 pub record HeldByAll (n : ℕ) (F : Contents) (name : List ℕ) (m : Meta) : Type 0 where
   pub each : (c : ℕ) → c < n → Holds n F name c m
   pub highest : (c : ℕ) (k : Meta) → c < n → Holds n F name c k → generation_of k ≤ generation_of m
+
+-- the generation of the meta that counts, 0 where there is none
+abbrev pub top_generation : Option Meta → ℕ
+top_generation top = option_map_or generation_of top 0
 
 -- all clouds hold this meta, where there is one, and none a higher one
 abbrev pub IsSettledOn : ℕ → Contents → List ℕ → Option Meta → Type 0

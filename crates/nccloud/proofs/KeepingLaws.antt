@@ -7,6 +7,7 @@ use Rattle.nc_bytes.specs.Bytes.{AreBytes}
 use Rattle.nc_name.specs.declared.key.Key.{Key}
 use Rattle.nc_name.specs.declared.key.Key.TheVariants.{Meta, Chunk}
 use Rattle.nc_name.specs.Keys.{key_text}
+use Rattle.nc_name.specs.Names.{IsName}
 use Rattle.nc_frame.specs.Frames.{Sealed}
 use Rattle.nc_frame.proofs.Shapes.{same_parts}
 use Rattle.nc_native.specs.Native.{combination}
@@ -19,8 +20,9 @@ use Rattle.nc_meta.specs.declared.meta.Meta.TheVariants.{Live}
 use Rattle.nc_meta.specs.Metas.{Spells, generation_of}
 use Rattle.nc_meta.proofs.OneSpelling.{one_spelling}
 use Rattle.nc_cloud.specs.Contents.{Contents}
+use Rattle.nc_state.specs.Holding.{Holds}
 use Rattle.nc_settle.specs.Judging.{SealedMeta}
-use Rattle.nc_settle.specs.Holding.{HoldsMeta}
+use Rattle.nc_settle.proofs.HeldMetas.{StandsSealed, meta_held, stands_sealed}
 use Rattle.nc_download.specs.Chunks.{wanted_of, HoldsPayload}
 use Rattle.nc_download.specs.Clouds.{held_at}
 use Rattle.nc_download.specs.Reading.{chunk_of}
@@ -81,22 +83,22 @@ mark_at n good v c r narrow l pair =
     ∙ cond_below (2 * c + r) (2 * n) _ (replicate 32 0) low
     ∙ sym (mark_is n good v (2 * c + r) (omega (arith, pair, l, narrow)))
 
-module _ (n : ℕ) (good : GoodParts) (name v : List ℕ) (F G : Contents) (wide : 4 ≤ n) (narrow : n ≤ 10) (is : IsGood good.code good.witnesses) (bytes : AreBytes v) (stores : Stores n good name v F G) (free : IsFree n name F) where
+module _ (n : ℕ) (good : GoodParts) (name v : List ℕ) (F G : Contents) (wide : 4 ≤ n) (narrow : n ≤ 10) (valid : IsName name) (is : IsGood good.code good.witnesses) (bytes : AreBytes v) (stores : Stores n good name v F G) (free : IsFree n name F) where
   parity : generation_of (Live (first_meta n good v)) % 2 ≡ 1
   parity = ap (λ g. g % 2) (generation_is n good v)
 
   meta_there : (c : ℕ) → c < n → IsThere (G c (Meta name 1)) (λ object. Sealed object c n (key_text (Meta name 1)) stores.metas.payload)
   meta_there c l = there_of (λ object. Sealed object c n (key_text (Meta name 1)) stores.metas.payload) (G c (Meta name 1)) (stores.metas.held c l)
 
-  holds_meta : (c : ℕ) → c < n → HoldsMeta n name G c (Live (first_meta n good v))
+  holds_meta : (c : ℕ) → c < n → Holds n G name c (Live (first_meta n good v))
   holds_meta c l =
       let at = meta_there c l in
       let sealed : SealedMeta n name c 1 at.bytes (Live (first_meta n good v)) = record { payload = stores.metas.payload; is_sealed = at.said; spells = stores.metas.spells; parity = parity } in
-      record {
+      meta_held n G name wide narrow valid c (Live (first_meta n good v)) l (record {
         bytes = at.bytes;
         stands = subst (λ (s : ℕ). G c (Meta name s) ≡ Some at.bytes) (sym parity) at.there;
         is_sealed = subst (λ (s : ℕ). SealedMeta n name c s at.bytes (Live (first_meta n good v))) (sym parity) sealed;
-      }
+      })
 
   -- in slot 1 there is no other
   one_in_slot_1 : (c : ℕ) (o : MetaValue) (object : List ℕ) → c < n → G c (Meta name 1) ≡ Some object → SealedMeta n name c 1 object o → o ≡ Live (first_meta n good v)
@@ -115,18 +117,21 @@ module _ (n : ℕ) (good : GoodParts) (name v : List ℕ) (F G : Contents) (wide
       (λ e. let k : 0 ≡ 2 = ap number_of e in absurd (omega (arith, k)))
       (λ e. let k : 0 ≡ 1 = ap number_of e in absurd (omega (arith, k)))
 
-  only : (c : ℕ) (o : MetaValue) → c < n → HoldsMeta n name G c o → o ≡ Live (first_meta n good v)
-  only c o l h = elim (cases_eq (generation_of o % 2) 1) [
+  only_sealed : (c : ℕ) (o : MetaValue) → c < n → StandsSealed n G name c o → o ≡ Live (first_meta n good v)
+  only_sealed c o l h = elim (cases_eq (generation_of o % 2) 1) [
     | inl one ↦ one_in_slot_1 c o h.bytes l (subst (λ (s : ℕ). G c (Meta name s) ≡ Some h.bytes) one h.stands) (subst (λ (s : ℕ). SealedMeta n name c s h.bytes o) one h.is_sealed)
     | inr other ↦
         let zero : generation_of o % 2 ≡ 0 = omega (arith, other) in
         let stood : F c (Meta name 0) ≡ Some h.bytes = sym (slot_0_stays c) ∙ subst (λ (s : ℕ). G c (Meta name s) ≡ Some h.bytes) zero h.stands in
-        absurd (free.none.none c o l (record {
+        absurd (free.none.none c o l (meta_held n F name wide narrow valid c o l (record {
           bytes = h.bytes;
           stands = subst (λ (s : ℕ). F c (Meta name s) ≡ Some h.bytes) (sym zero) stood;
           is_sealed = h.is_sealed;
-        }))
+        })))
   ]
+
+  only : (c : ℕ) (o : MetaValue) → c < n → Holds n G name c o → o ≡ Live (first_meta n good v)
+  only c o l held = only_sealed c o l (stands_sealed n G name wide narrow valid c o l held)
 
   right_at : (c r : ℕ) → c < n → r < 2 → HoldsPayload (wanted_of n name (first_meta n good v) r c) (held_at n name (first_meta n good v) G c r) (chunk_of n (first_meta n good v) v r c)
   right_at c r l pair =

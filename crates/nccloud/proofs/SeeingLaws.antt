@@ -1,5 +1,6 @@
 -- What a view says of a new file is what the clouds hold.
 use Rattle.std.proofs.Common.{◌≡◌, ◌≤◌, ℕ, List, ◌∙◌}
+use Rattle.nc_name.specs.Names.{IsName}
 use Rattle.nc_cloud.specs.Contents.{Contents, Grows}
 use Rattle.nc_cloud.specs.Deciding.{HasCause}
 use Rattle.nc_cloud.specs.declared.deciding.RoundFault.{RoundFault}
@@ -24,25 +25,25 @@ put_fault n s name v (Short bads) is = is
 put_fault n s name v (Unsound a b) is = is
 put_fault n s name v other is = tt
 
-module _ (n : ℕ) (name : List ℕ) (F : Contents) (v : Places) (wide : 4 ≤ n) (narrow : n ≤ 10) (sees : Sees n name F v) (width : HasWidth n v) where
+module _ (n : ℕ) (name : List ℕ) (F : Contents) (v : Places) (wide : 4 ≤ n) (narrow : n ≤ 10) (is_name : IsName name) (sees : Sees n name F v) (width : HasWidth n v) where
   pub free_held : IsSeenFree v → IsFree n name F
   free_held free = record {
-    none = none_held n name F v wide narrow sees width.first free.answered free.none;
-    nothing_misplaced = nothing_misplaced n name F v wide narrow sees width.first free.answered free.nothing_misplaced;
+    none = none_held n name F v wide narrow is_name sees width.first free.answered free.none;
+    nothing_misplaced = nothing_misplaced n name F v wide narrow is_name sees width.first free.answered free.nothing_misplaced;
   }
 
   taken_held : IsSeenTaken v → IsTaken n name F
   taken_held taken = record {
     meta = taken.meta;
-    highest = top_is_highest n name F v wide narrow sees width.first taken.answered taken.cloud taken.meta taken.top;
-    undisputed = undisputed n name F v wide narrow sees width.first taken.answered taken.settled taken.cloud taken.meta taken.top;
+    highest = top_is_highest n name F v wide narrow is_name sees width.first taken.answered taken.cloud taken.meta taken.top;
+    undisputed = undisputed n name F v wide narrow is_name sees width.first taken.answered taken.settled taken.cloud taken.meta taken.top;
   }
 
   pub refused_held : (fault : Fault) → SeenToRefuse v fault → PutRefuses n name F fault
   refused_held (Cloud c) is = tt
-  refused_held (Misplaced c a b) is = least_misplaced_held n name F v wide narrow sees width.first is.0 c a b is.1
-  refused_held (Conflict g a b) is = (nothing_misplaced n name F v wide narrow sees width.first is.0 is.1, disputed n name F v wide narrow sees width.first is.0 g a b is.2)
-  refused_held Taken is = (nothing_misplaced n name F v wide narrow sees width.first is.answered is.nothing_misplaced, taken_held is)
+  refused_held (Misplaced c a b) is = least_misplaced_held n name F v wide narrow is_name sees width.first is.0 c a b is.1
+  refused_held (Conflict g a b) is = (nothing_misplaced n name F v wide narrow is_name sees width.first is.0 is.1, disputed n name F v wide narrow is_name sees width.first is.0 g a b is.2)
+  refused_held Taken is = (nothing_misplaced n name F v wide narrow is_name sees width.first is.answered is.nothing_misplaced, taken_held is)
   refused_held (Spent tried) is = absurd is
   refused_held other is = tt
 

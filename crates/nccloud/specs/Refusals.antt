@@ -2,7 +2,8 @@
 use Rattle.std.specs.Prelude.{ℕ, ◌≡◌, List}
 use Rattle.nc_cloud.specs.Contents.{Contents}
 use Rattle.nc_meta.specs.declared.meta.Meta.{Meta}
-use Rattle.nc_settle.specs.Holding.{NoneSealed, NothingMisplaced, LeastMisplaced, IsDisputed, IsHighest, Undisputed}
+use Rattle.nc_state.specs.Holding.{HeldByNone, IsDisputed, IsTop, Undisputed}
+use Rattle.nc_settle.specs.Elsewhere.{NothingMisplaced, LeastMisplaced}
 use Rattle.nccloud.specs.declared.setting.Setting.{Setting}
 use Rattle.nccloud.specs.Drawing.{HasNoCode}
 use Rattle.nccloud.specs.declared.status.Fault.{Fault}
@@ -10,19 +11,19 @@ use Rattle.nccloud.specs.declared.status.Fault.TheVariants as fault
 
 -- no cloud of n holds metadata of the name, nor some of elsewhere under its keys
 pub record IsFree (n : ℕ) (name : List ℕ) (F : Contents) : Type 0 where
-  pub none : NoneSealed n name F
+  pub none : HeldByNone n F name
   pub nothing_misplaced : NothingMisplaced n name F
 
 -- some cloud holds metadata of the name, and no other of the highest generation
 pub record IsTaken (n : ℕ) (name : List ℕ) (F : Contents) : Type 0 where
   pub meta : Meta
-  pub highest : IsHighest n name F meta
-  pub undisputed : Undisputed n name F meta
+  pub highest : IsTop n F name meta
+  pub undisputed : Undisputed n F name meta
 
 -- What the clouds hold of a name where a put of it is refused for this.
 abbrev pub PutRefuses : ℕ → List ℕ → Contents → Fault → Type 0
 PutRefuses n name F (fault.Misplaced c a b) = LeastMisplaced n name F c a b
-PutRefuses n name F (fault.Conflict g a b) = NothingMisplaced n name F × IsDisputed n name F g a b
+PutRefuses n name F (fault.Conflict g a b) = NothingMisplaced n name F × IsDisputed n F name g a b
 PutRefuses n name F fault.Taken = NothingMisplaced n name F × IsTaken n name F
 PutRefuses n name F (fault.Spent tried) = IsFree n name F
 PutRefuses n name F other = Unit {0}

@@ -2,7 +2,7 @@
 use Rattle.std.specs.Prelude.{ℕ}
 use Rattle.nc_meta.specs.declared.meta.Meta.{Meta}
 use Rattle.nc_settle.specs.Views.{Places}
-use Rattle.nc_settle.specs.Decisions.{NoneFailed, IsLeastFailed, NoneMisplaced, IsLeastMisplaced, SeesNone, IsTop, IsConflict, NoConflict}
+use Rattle.nc_settle.specs.Decisions.{NoneFailed, IsLeastFailed, NoneMisplaced, IsLeastMisplaced, SeesNone, SeesTop, IsConflict, NoConflict}
 use Rattle.nccloud.specs.declared.status.Fault.{Fault}
 use Rattle.nccloud.specs.declared.status.Fault.TheVariants as fault
 
@@ -18,7 +18,7 @@ pub record IsSeenTaken (v : Places) : Type 0 where
   pub nothing_misplaced : NoneMisplaced v
   pub cloud : ℕ
   pub meta : Meta
-  pub top : IsTop v cloud meta
+  pub top : SeesTop v cloud meta
   pub settled : NoConflict v
 
 -- why a new file isn't stored

@@ -7,7 +7,7 @@ use Rattle.nc_download.proofs.GivingLaws.{gives}
 use Rattle.nc_download.proofs.fetching.fetch.Goals as goal
 
 pub returns-in-Err-clause-fetches : goal.returns-in-Err-clause-fetches
-returns-in-Err-clause-fetches g c told = refused_held _ _ _ _ c.requires.wide c.requires.narrow (c.in_ok-view.ensures.told told) c.in_ok-view.ensures.width _ c.in-Err.ensures.fault
+returns-in-Err-clause-fetches g c told = refused_held _ _ _ _ c.requires.wide c.requires.narrow c.in_ok-view.ensures.valid (c.in_ok-view.ensures.told told) c.in_ok-view.ensures.width _ c.in-Err.ensures.fault
 
 pub returns-in-Err-clause-cause : goal.returns-in-Err-clause-cause
 returns-in-Err-clause-cause g c = refused_cause _ _ c.in_ok-view.ensures.width _ _ _ c.in_ok-view.ensures.failed c.in_ok-view.ensures.exact _ c.in-Err.ensures.fault
@@ -15,7 +15,7 @@ returns-in-Err-clause-cause g c = refused_cause _ _ c.in_ok-view.ensures.width _
 pub returns-in-Fails-clause-fetches : goal.returns-in-Fails-clause-fetches
 returns-in-Fails-clause-fetches g c told = record {
   meta = c.in-Ok.live;
-  shown = shown_held _ _ _ _ c.requires.wide c.requires.narrow (c.in_ok-view.ensures.told told) c.in_ok-view.ensures.width _ c.in-Ok.ensures.shown;
+  shown = shown_held _ _ _ _ c.requires.wide c.requires.narrow c.in_ok-view.ensures.valid (c.in_ok-view.ensures.told told) c.in_ok-view.ensures.width _ c.in-Ok.ensures.shown;
   kernel = _;
   first = c.in-Fails.ensures.verdict;
 }
@@ -25,7 +25,7 @@ returns-in-Fails-clause-cause g c = clean _ _ c.in_ok-view.ensures.width _ _ _ c
 
 pub returns-in-Ok-read_file-clause-fetches : goal.returns-in-Ok-read_file-clause-fetches
 returns-in-Ok-read_file-clause-fetches g c told =
-    comes_back _ _ _ _ _ _ c.in_ok-view.ensures.looked.clouds c.in_ok-view.ensures.looked.held (shown_held _ _ _ _ c.requires.wide c.requires.narrow (c.in_ok-view.ensures.told told) c.in_ok-view.ensures.width _ c.in-Ok.ensures.shown)
+    comes_back _ _ _ _ _ _ c.in_ok-view.ensures.looked.clouds c.in_ok-view.ensures.looked.held (shown_held _ _ _ _ c.requires.wide c.requires.narrow c.in_ok-view.ensures.valid (c.in_ok-view.ensures.told told) c.in_ok-view.ensures.width _ c.in-Ok.ensures.shown)
     c.in_default.ensures.verdict _ (c.in-Ok-read_file.ensures.comes told)
 
 pub returns-in-Ok-read_file-clause-clean : goal.returns-in-Ok-read_file-clause-clean
@@ -38,7 +38,7 @@ returns-in-Err-Cloud-clause-cause g c =
 
 pub returns-in-Err-Short-clause-fetches : goal.returns-in-Err-Short-clause-fetches
 returns-in-Err-Short-clause-fetches g c told =
-    short_of _ _ _ _ _ _ c.in_ok-view.ensures.looked.clouds c.in_ok-view.ensures.looked.held (shown_held _ _ _ _ c.requires.wide c.requires.narrow (c.in_ok-view.ensures.told told) c.in_ok-view.ensures.width _ c.in-Ok.ensures.shown)
+    short_of _ _ _ _ _ _ c.in_ok-view.ensures.looked.clouds c.in_ok-view.ensures.looked.held (shown_held _ _ _ _ c.requires.wide c.requires.narrow c.in_ok-view.ensures.valid (c.in_ok-view.ensures.told told) c.in_ok-view.ensures.width _ c.in-Ok.ensures.shown)
     c.in_default.ensures.verdict _ (subst (λ (f : ReadFault). IsShort (g.F.Fleet.clouds c.look.new.fleet) c.args.name.now c.in-Ok.live (g.F.Fleet.held c.look.new.fleet) f) c.in-Err-Short.field-0-is (c.in-Err-Short.ensures.short told))
 
 pub returns-in-Err-Short-clause-cause : goal.returns-in-Err-Short-clause-cause

@@ -1,7 +1,8 @@
-use Rattle.std.proofs.Common.{refl, arith, ◌∙◌, Vec, Global}
+use Rattle.std.proofs.Common.{◌≡◌, refl, arith, ◌∙◌, Vec, Global}
 use Rattle.std.proofs.lemmas.Result.{IfOk-weaker}
 use Rattle.nc_settle.specs.declared.place.Place.{Place}
 use Rattle.nc_cloud.proofs.Rounds.{asks_below, asks_once}
+use Rattle.nc_cloud.proofs.Time.{stops_round}
 use Rattle.nc_settle.specs.Rounds.{meta_ask}
 use Rattle.nc_settle.proofs.Looks.{places_count, sees, metas, failures, only_failures, no_chunks}
 use Rattle.nc_settle.proofs.looking.ask_all.Goals as goal
@@ -34,3 +35,6 @@ returns-clause-exact g c exact =
 
 pub returns-clause-gets : goal.returns-clause-gets
 returns-clause-gets g c k = no_chunks _ c.args.name.now c.args.slot c.get_round.new.asks (c.get_round.ensures.entries ∙ c.requires.asks) k _ _ (c.get_round.ensures.gets k)
+
+pub returns-clause-stops : goal.returns-clause-stops
+returns-clause-stops g c = stops_round (λ G. G ≡ g.F.Fleet.held c.args.fleet.now) c.get_round.ensures.time c.get_round.ensures.past (λ G is. is)

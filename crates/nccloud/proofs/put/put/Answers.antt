@@ -18,7 +18,7 @@ pub returns-in-Err-clause-fault : goal.returns-in-Err-clause-fault
 returns-in-Err-clause-fault g c = put_fault (g.F.Fleet.clouds c.args.fleet.now) c.args.setting.now c.args.name.now _ _ c.in-Err.ensures.fault
 
 pub returns-in-Err-clause-refused : goal.returns-in-Err-clause-refused
-returns-in-Err-clause-refused g c told = refused_held _ _ _ _ c.requires.wide c.requires.narrow (c.in_ok-view.ensures.told told) c.in_ok-view.ensures.width _ c.in-Err.ensures.fault
+returns-in-Err-clause-refused g c told = refused_held _ _ _ _ c.requires.wide c.requires.narrow c.in_ok-view.ensures.valid (c.in_ok-view.ensures.told told) c.in_ok-view.ensures.width _ c.in-Err.ensures.fault
 
 pub returns-in-Err-clause-cause : goal.returns-in-Err-clause-cause
 returns-in-Err-clause-cause g c = refused_cause _ _ c.in_ok-view.ensures.width _ _ _ c.in_ok-view.ensures.failed c.in_ok-view.ensures.exact _ c.in-Err.ensures.fault
@@ -34,7 +34,7 @@ returns-in-Err-first_code-clause-fault g c =
 pub returns-in-Err-first_code-clause-refused : goal.returns-in-Err-first_code-clause-refused
 returns-in-Err-first_code-clause-refused g c told =
     subst (λ (fault : Fault). PutRefuses (g.F.Fleet.clouds c.args.fleet.now) c.args.name.now (g.F.Fleet.held c.args.fleet.now) fault) (sym c.in-Err-first_code.ensures.spent.0)
-    (free_held _ _ _ _ c.requires.wide c.requires.narrow (c.in_ok-view.ensures.told told) c.in_ok-view.ensures.width c.in-Ok.ensures.free)
+    (free_held _ _ _ _ c.requires.wide c.requires.narrow c.in_ok-view.ensures.valid (c.in_ok-view.ensures.told told) c.in_ok-view.ensures.width c.in-Ok.ensures.free)
 
 pub returns-in-Err-first_code-clause-cause : goal.returns-in-Err-first_code-clause-cause
 returns-in-Err-first_code-clause-cause g c =
@@ -53,19 +53,19 @@ write_all-requires-clause-prepared g c = record {
 
 -- the name was free
 pub returns-in-Ok-write_all-clause-free : goal.returns-in-Ok-write_all-clause-free
-returns-in-Ok-write_all-clause-free g c told = free_held _ _ _ _ c.requires.wide c.requires.narrow (c.in_ok-view.ensures.told told) c.in_ok-view.ensures.width c.in-Ok.ensures.free
+returns-in-Ok-write_all-clause-free g c told = free_held _ _ _ _ c.requires.wide c.requires.narrow c.in_ok-view.ensures.valid (c.in_ok-view.ensures.told told) c.in_ok-view.ensures.width c.in-Ok.ensures.free
 
 pub returns-in-Ok-write_all-clause-kept : goal.returns-in-Ok-write_all-clause-kept
 returns-in-Ok-write_all-clause-kept g c told taken =
-    absurd (taken (free_held _ _ _ _ c.requires.wide c.requires.narrow (c.in_ok-view.ensures.told told) c.in_ok-view.ensures.width c.in-Ok.ensures.free))
+    absurd (taken (free_held _ _ _ _ c.requires.wide c.requires.narrow c.in_ok-view.ensures.valid (c.in_ok-view.ensures.told told) c.in_ok-view.ensures.width c.in-Ok.ensures.free))
 
 pub returns-in-Err-Cloud-clause-kept : goal.returns-in-Err-Cloud-clause-kept
 returns-in-Err-Cloud-clause-kept g c told taken =
-    absurd (taken (free_held _ _ _ _ c.requires.wide c.requires.narrow (c.in_ok-view.ensures.told told) c.in_ok-view.ensures.width c.in-Ok.ensures.free))
+    absurd (taken (free_held _ _ _ _ c.requires.wide c.requires.narrow c.in_ok-view.ensures.valid (c.in_ok-view.ensures.told told) c.in_ok-view.ensures.width c.in-Ok.ensures.free))
 
 pub returns-clause-kept : goal.returns-clause-kept
 returns-clause-kept g c told taken =
-    absurd (taken (free_held _ _ _ _ c.requires.wide c.requires.narrow (c.in_ok-view.ensures.told told) c.in_ok-view.ensures.width c.in-Ok.ensures.free))
+    absurd (taken (free_held _ _ _ _ c.requires.wide c.requires.narrow c.in_ok-view.ensures.valid (c.in_ok-view.ensures.told told) c.in_ok-view.ensures.width c.in-Ok.ensures.free))
 
 -- and a code was found
 pub returns-in-Ok-write_all-clause-spent : goal.returns-in-Ok-write_all-clause-spent
@@ -122,5 +122,5 @@ returns-in-Ok-write_all-clause-stored g c told =
       drawn = drawn;
       repairable = c.in-Ok-first_code.ensures.good;
       stores = stores;
-      holds = put_is_held n good _ _ _ _ c.requires.wide c.requires.narrow c.in-Ok-first_code.ensures.good (subst (λ (b : List ℕ). AreBytes b) c.bytes-2.ensures c.told_bytes.ensures) stores (returns-in-Ok-write_all-clause-free g c told);
+      holds = put_is_held n good _ _ _ _ c.requires.wide c.requires.narrow c.look.ensures.valid c.in-Ok-first_code.ensures.good (subst (λ (b : List ℕ). AreBytes b) c.bytes-2.ensures c.told_bytes.ensures) stores (returns-in-Ok-write_all-clause-free g c told);
     }
