@@ -12,6 +12,7 @@ pub mod MetaWrites
 pub mod MetaLaws
 pub mod MisplacedLaw
 pub mod ShownLaw
+pub mod TopLaws
 pub mod Images
 pub mod AfterLaws
 pub mod ChunkLaws

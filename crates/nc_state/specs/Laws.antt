@@ -18,12 +18,12 @@ use Rattle.nc_cloud.specs.Images.{Image}
 use Rattle.nc_state.specs.Clouds.{Clouds, count_of, no_cloud, with_cloud, without_cloud}
 use Rattle.nc_state.specs.Versions.Version.{Never, Removed, Stored}
 use Rattle.nc_state.specs.Versions.{Version, IsValid, meta_of, version_generation}
-use Rattle.nc_state.specs.Holding.{AllHold, Holds, HoldsSealed, meta_key, meta_object}
+use Rattle.nc_state.specs.Holding.{AllHold, Holds, HoldsSealed, IsDisputed, IsTopOrNone, meta_key, meta_object}
 use Rattle.nc_state.specs.Right.{HasChunkAt, PlacesStand, RightOn, free_slot_of}
 use Rattle.nc_state.specs.Entries.{Entry, HasEntry, Rests}
 use Rattle.nc_state.specs.Entries.Entry.{Rest, Opened}
 use Rattle.nc_state.specs.Weighing.{after, settled, weigh}
-use Rattle.nc_state.specs.Showing.{AreBearable, IsSeenTop, IsShown, ReadsAs, UnlistedOutside}
+use Rattle.nc_state.specs.Showing.{AreBearable, IsSeenTop, IsSettledTop, IsShown, ReadsAs, UnlistedOutside}
 use Rattle.nc_state.specs.Standing.{AreNames, Entries, IsHealed, Stands, no_entry, with_entry}
 use Rattle.nc_state.specs.Commands.{IsNext}
 use Rattle.nc_state.specs.Losses.{Loses, weighed}
@@ -63,6 +63,16 @@ SeenIsShown = (n : ℕ) (F : Contents) (S : Entries) (D X : Clouds) (name : List
 abbrev pub UnlistedIsShown : Type 0
 UnlistedIsShown = (n : ℕ) (F : Contents) (S : Entries) (D X : Clouds) (name : List ℕ)
     → IsName name → Stands n F S D → AreBearable n D X → UnlistedOutside n F X name → ReadsAs n F X name (S name) Never
+
+-- the highest metadata that clouds hold is that of the version that is settled on, which is shown
+abbrev pub TopIsShown : Type 0
+TopIsShown = (n : ℕ) (F : Contents) (S : Entries) (D : Clouds) (name : List ℕ) (top : Option Meta)
+    → IsName name → Stands n F S D → IsTopOrNone n F name top → IsSettledTop n F D name (S name) top
+
+-- no two metas of the highest generation differ
+abbrev pub NoneDisputed : Type 0
+NoneDisputed = (n : ℕ) (F : Contents) (S : Entries) (D : Clouds) (name : List ℕ) (generation a b : ℕ)
+    → IsName name → Stands n F S D → IsDisputed n F name generation a b → ⊥
 
 -- no frame of another cloud or width stands under a key of metadata
 abbrev pub NoneMisplaced : Type 0

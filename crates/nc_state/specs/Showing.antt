@@ -56,6 +56,13 @@ pub record IsShown (n : ℕ) (F : Contents) (D X : Clouds) (name : List ℕ) (e 
   pub places : PlacesStand n F D name version
   pub one_meta : OneMeta n F name version
 
+-- It is the meta of the version that is settled on, which is valid, whose chunks stand, and of which no cloud holds another meta.
+pub record IsSettledTop (n : ℕ) (F : Contents) (D : Clouds) (name : List ℕ) (e : Entry) (top : Option Meta) : Type 0 where
+  pub meta : meta_of (settled n F name e) ≡ top
+  pub valid : IsValid n (settled n F name e)
+  pub places : PlacesStand n F D name (settled n F name e)
+  pub one_meta : OneMeta n F name (settled n F name e)
+
 -- no cloud outside X holds an object of the name
 pub record UnlistedOutside (n : ℕ) (F : Contents) (X : Clouds) (name : List ℕ) : Type 0 where
   pub none : (c : ℕ) (place : Key) → c < n → X c ≡ false → name_of place ≡ name → F c place ≡ None

@@ -28,6 +28,12 @@ meta_of (Stored m v) = Some (meta.Live m)
 abbrev pub version_generation : Version → ℕ
 version_generation x = option_map_or generation_of (meta_of x) 0
 
+-- the bytes of the file, where there is one
+abbrev pub value_of : Version → Option (List ℕ)
+value_of Never = None
+value_of (Removed generation) = None
+value_of (Stored m v) = Some v
+
 -- A meta describes a file of these bytes on n clouds: it can be stored, the length is theirs, the code is MDS, the plans that
 -- it stores are witnesses, and each mark is the SHA-256 of its row's combination.
 pub record IsValidFor (n : ℕ) (m : Live) (v : List ℕ) : Type 0 where

@@ -2,7 +2,7 @@
 
 ghost use Rattle.nc_state.specs.ChunkLaws.{ChunksStay, FreeSlotIsFree, MendedIsFree, MendedIsValid, MendedKeepsChunks, MetasKeepChunks, NewPlacesStand, NothingToBeRight, OnlyRightIsSealed, RightIsMarked, UntouchedStays, WrongIsDamaged};
 ghost use Rattle.nc_state.specs.Commands.{MetasWritten, NothingMadeYet, NothingToSettle, RestsAfter, SettledIsTop, Settling, StaysAtRest};
-ghost use Rattle.nc_state.specs.Laws.{AtRestIsAfter, EmptyStands, EntriesAgree, HealedStands, HeldIsSealed, LossKeeps, NoneMisplaced, NotBegun, RoundIsImage, SealedIsObject, SeenIsShown, StepSettlesOn, TwoAtMost, UnlistedIsShown, UnlistedRests};
+ghost use Rattle.nc_state.specs.Laws.{AtRestIsAfter, EmptyStands, EntriesAgree, HealedStands, HeldIsSealed, LossKeeps, NoneDisputed, NoneMisplaced, NotBegun, RoundIsImage, SealedIsObject, SeenIsShown, StepSettlesOn, TopIsShown, TwoAtMost, UnlistedIsShown, UnlistedRests};
 
 /// Clouds without objects stand for no names.
 pub fn empty_stands()
@@ -172,4 +172,14 @@ pub fn nothing_made_yet()
 /// The metadata that all clouds hold of a name at rest is that of its version.
 pub fn settled_is_top()
     ensures { SettledIsTop }
+{}
+
+/// The highest metadata that clouds hold is that of the version that is settled on.
+pub fn top_is_shown()
+    ensures { TopIsShown }
+{}
+
+/// No two metas of the highest generation differ.
+pub fn none_disputed()
+    ensures { NoneDisputed }
 {}
