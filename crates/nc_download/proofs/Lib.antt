@@ -2,4 +2,4 @@ pub mod Judged
 pub mod Sorted
 pub mod ReadLaws
 pub mod FetchLaws
-pub mod GivingLaws
+pub mod ShownLaws

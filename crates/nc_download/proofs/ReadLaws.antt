@@ -1,14 +1,11 @@
 -- What the sorted clouds give.
-use Rattle.std.proofs.Common.{◌≡◌, ◌≢◌, ◌<◌, ◌≤◌, ◌+◌, ℕ, zero, suc, Option, None, Some, List, [], ◌∷◌, map, length, get_or, refl, sym, ap, ◌∙◌, subst, arith, inl, inr, ◌⊎◌, All, AllPairs}
-use Rattle.std.proofs.lemmas.Bool.{cases_eq, cases_lt}
+use Rattle.std.proofs.Common.{◌≡◌, ◌≢◌, ◌<◌, ◌≤◌, ◌+◌, ℕ, zero, suc, Option, None, Some, List, [], map, length, get_or, sym, ap, ◌∙◌, subst, arith, inl, inr, All, AllPairs}
+use Rattle.std.proofs.lemmas.Bool.{cases_lt}
 use Rattle.std.proofs.lemmas.List.{length-map, get_or-map}
 use Rattle.std.proofs.lemmas.List.Elements.{All-map}
 use Rattle.sha2.specs.Sha256.{sha256}
-use Rattle.nc_name.specs.Keys.{key_text}
-use Rattle.nc_frame.specs.Frames.{Sealed, Whole}
-use Rattle.nc_frame.proofs.Shapes.{same_parts, whole_of}
+use Rattle.nc_frame.proofs.Shapes.{same_parts}
 use Rattle.nc_native.specs.Native.{chunk_size, combination}
-use Rattle.nc_native.proofs.Pieces.{length-combination}
 use Rattle.nc_code.specs.Codes.{code_row}
 use Rattle.nc_cloud.specs.Contents.{Contents}
 use Rattle.nc_cloud.specs.declared.fleet.Ask.{Ask}
@@ -24,15 +21,8 @@ use Rattle.nc_download.specs.declared.short.Why.{Why}
 use Rattle.nc_download.specs.declared.short.Why.TheVariants.{Failed, Row}
 use Rattle.nc_download.specs.Chunks.{wanted_of, ChunkIs, HoldsPayload}
 use Rattle.nc_download.specs.Clouds.{held_at, AreGoodRows, CauseOf, IsGoodCloud, IsGoodRow}
-use Rattle.nc_download.specs.Reading.{chunk_of, AllButTwoAreRight, AreFirstGood, AreTooMany, ComesFrom, HoldsChunksOf, IsRightCloud, SoundFor}
-use Rattle.nc_bytes.specs.Bytes.{AreBytes}
+use Rattle.nc_download.specs.Reading.{AreFirstGood, AreTooMany, HoldsChunksOf}
 use Rattle.nc_download.specs.Sorting.{AreInOrder, AreSorted}
-
--- what is whole and right there has no other payload
-only_right : (w : Wanted) (held : Option (List ℕ)) (payload right : List ℕ) → HoldsPayload w held payload
-    → ((bytes : List ℕ) → held ≡ Some bytes → Whole bytes → Sealed bytes w.cloud w.width (key_text w.key) right) → payload ≡ right
-only_right w (Some bytes) payload right holds sound = (same_parts bytes _ _ _ _ _ _ _ _ holds (sound bytes refl (whole_of bytes _ _ _ _ holds))).payload
-only_right w None payload right holds sound = absurd holds
 
 -- what is held has one payload
 same_payload : (w : Wanted) (held : Option (List ℕ)) (p q : List ℕ) → HoldsPayload w held p → HoldsPayload w held q → p ≡ q
@@ -40,18 +30,18 @@ same_payload w (Some bytes) p q first second = (same_parts bytes _ _ _ _ _ _ _ _
 same_payload w None p q first second = absurd first
 
 -- a chunk that has the length and the digest that are wanted isn't bad
-not_bad : (w : Wanted) (held : Option (List ℕ)) (right : List ℕ) → HoldsPayload w held right → length right ≡ w.size → sha256 right ≡ w.mark → (how : How) → ChunkIs w held how → ⊥
+pub not_bad : (w : Wanted) (held : Option (List ℕ)) (right : List ℕ) → HoldsPayload w held right → length right ≡ w.size → sha256 right ≡ w.mark → (how : How) → ChunkIs w held how → ⊥
 not_bad w held right holds long marked Missing is = absurd (subst (λ h. HoldsPayload w h right) is holds)
 not_bad w held right holds long marked Broken is = is.no_payload right holds long
 not_bad w held right holds long marked Marked is = is.other (ap sha256 (same_payload w held _ _ is.holds holds) ∙ marked)
 
 -- a good chunk of some payload
-record HasGoodRow (n : ℕ) (name : List ℕ) (m : Live) (F : Contents) (c r : ℕ) : Type 0 where
-  payload : List ℕ
-  good : IsGoodRow n name m F c r payload
+pub record HasGoodRow (n : ℕ) (name : List ℕ) (m : Live) (F : Contents) (c r : ℕ) : Type 0 where
+  pub payload : List ℕ
+  pub good : IsGoodRow n name m F c r payload
 
 module _ (n : ℕ) (name : List ℕ) (m : Live) (F : Contents) (c : ℕ) (is : IsGoodCloud n name m F c) where
-  good_row : (r : ℕ) → r < 2 → HasGoodRow n name m F c r
+  pub good_row : (r : ℕ) → r < 2 → HasGoodRow n name m F c r
   good_row zero low = record { payload = is.zero; good = is.rows.first }
   good_row (suc zero) low = record { payload = is.one; good = is.rows.second }
   good_row (suc (suc r)) low = absurd (omega arith)
@@ -62,20 +52,6 @@ module _ (n : ℕ) (name : List ℕ) (m : Live) (F : Contents) (c : ℕ) (is : I
   good_has_no_cause (Row r how) caused =
       let row = good_row r caused.pair in
       not_bad (wanted_of n name m r c) (held_at n name m F c r) row.payload row.good.holds row.good.long row.good.marked how caused.here
-
-  -- where the places are sound for a file, it holds its chunks
-  sound_holds : (v : List ℕ) → SoundFor n name m v F → c < n → HoldsChunksOf n name m v F c
-  sound_holds v sound low = record {
-    row = λ r pair.
-        let row = good_row r pair in
-        subst (HoldsPayload (wanted_of n name m r c) (held_at n name m F c r))
-        (only_right (wanted_of n name m r c) (held_at n name m F c r) row.payload (chunk_of n m v r c) row.good.holds (sound.places c r low pair).whole) row.good.holds;
-  }
-
--- so a file that comes from good clouds is the one that the places are sound for
-pub is_sound : (n : ℕ) (name : List ℕ) (m : Live) (F : Contents) (file v : List ℕ) → ComesFrom n name m F file → AreBytes v → length v ≡ m.len → SoundFor n name m v F → file ≡ v
-is_sound n name m F file v comes bytes long sound =
-    comes.is_file v bytes long (λ k d l. sound_holds n name m F (get_or comes.clouds k d) (comes.first.good k d l) v sound (comes.first.in_width k d l))
 
 -- all clouds are sorted by what is held
 pub record AreAllSorted (n : ℕ) (name : List ℕ) (m : Live) (F : Contents) (pieces : List Piece) (bads : List Bad) : Type 0 where
@@ -150,54 +126,3 @@ module _ (n : ℕ) (name : List ℕ) (m : Live) (F : Contents) (pieces : List Pi
         zero = same_payload (wanted_of n name m 0 p.cloud) _ _ _ good.first.holds (chunks.row 0 (omega arith)) ∙ ap (combination (code_row m.code p.cloud 0) v) (sym width);
         one = same_payload (wanted_of n name m 1 p.cloud) _ _ _ good.second.holds (chunks.row 1 (omega arith)) ∙ ap (combination (code_row m.code p.cloud 1) v) (sym width);
       }
-
-module _ (n : ℕ) (name : List ℕ) (m : Live) (v : List ℕ) (F : Contents) (long : length v ≡ m.len) where
-  -- a right cloud is good
-  right_row : (c r : ℕ) → r < 2 → IsRightCloud n name m v F c → IsGoodRow n name m F c r (chunk_of n m v r c)
-  right_row c r pair right = record {
-    holds = right.holds.row r pair;
-    long = length-combination (code_row m.code c r) v n ∙ ap (λ k. chunk_size k n) long;
-    marked = right.marked r pair;
-  }
-
-  right_is_good : (c : ℕ) → IsRightCloud n name m v F c → IsGoodCloud n name m F c
-  right_is_good c right = record {
-    zero = chunk_of n m v 0 c;
-    one = chunk_of n m v 1 c;
-    rows = record { first = right_row c 0 (omega arith) right; second = right_row c 1 (omega arith) right };
-  }
-
-  -- so where all but two are right, three can't be bad
-  module _ (bads : List Bad) (all : AllButTwoAreRight n name m v F) (many : AreTooMany n name m F bads) (d : Bad) where
-    abbrev cloud : ℕ → ℕ
-    cloud k = (get_or bads k d).cloud
-
-    one_of : (k : ℕ) → k < length bads → (cloud k ≡ all.first) ⊎ (cloud k ≡ all.second)
-    one_of k l = elim (cases_eq (cloud k) all.first) [
-      | inl same ↦ inl same
-      | inr other ↦ elim (cases_eq (cloud k) all.second) [
-        | inl same ↦ inr same
-        | inr too ↦ absurd (good_has_no_cause n name m F (cloud k) (right_is_good (cloud k) (all.right (cloud k) (many.in_width k d l) other too)) (get_or bads k d).why (many.caused k d l))
-      ]
-    ]
-
-    first_less : cloud 0 < cloud 1
-    first_less = many.ascending 0 1 d (omega arith) (omega (arith, many.many))
-
-    second_less : cloud 1 < cloud 2
-    second_less = many.ascending 1 2 d (omega arith) many.many
-
-    three : (cloud 0 ≡ all.first) ⊎ (cloud 0 ≡ all.second) → (cloud 1 ≡ all.first) ⊎ (cloud 1 ≡ all.second) → (cloud 2 ≡ all.first) ⊎ (cloud 2 ≡ all.second) → ⊥
-    three (inl p) (inl q) s = absurd (omega (arith, first_less))
-    three (inr p) (inr q) s = absurd (omega (arith, first_less))
-    three (inl p) (inr q) (inl s) = absurd (omega (arith, first_less, second_less))
-    three (inl p) (inr q) (inr s) = absurd (omega (arith, second_less))
-    three (inr p) (inl q) (inl s) = absurd (omega (arith, second_less))
-    three (inr p) (inl q) (inr s) = absurd (omega (arith, first_less, second_less))
-
-    few_at : ⊥
-    few_at = three (one_of 0 (omega (arith, many.many))) (one_of 1 (omega (arith, many.many))) (one_of 2 many.many)
-
-  pub few_bad : (bads : List Bad) → AllButTwoAreRight n name m v F → AreTooMany n name m F bads → ⊥
-  few_bad [] all many = absurd (omega (arith, many.many))
-  few_bad (b ∷ bs) all many = few_at (b ∷ bs) all many b

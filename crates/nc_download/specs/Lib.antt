@@ -4,4 +4,4 @@ pub mod Fetching
 pub mod Reading
 pub mod Showing
 pub mod Sorting
-pub mod Giving
+pub mod OnVaults

@@ -1,9 +1,6 @@
 -- What reading a file answers.
-use Rattle.std.specs.Prelude.{ℕ, ◌≡◌, ◌≢◌, ◌<◌, ◌+◌, ◌*◌, Some, List, [], length, slice_index_or, All, AllPairs}
-use Rattle.sha2.specs.Sha256.{sha256}
+use Rattle.std.specs.Prelude.{ℕ, ◌≡◌, ◌≢◌, ◌<◌, ◌+◌, List, length, All, AllPairs}
 use Rattle.nc_bytes.specs.Bytes.{AreBytes}
-use Rattle.nc_name.specs.Keys.{key_text}
-use Rattle.nc_frame.specs.Frames.{Sealed, Whole}
 use Rattle.nc_native.specs.Native.{combination}
 use Rattle.nc_code.specs.Codes.{code_row}
 use Rattle.nc_meta.specs.declared.meta.Live.{Live}
@@ -21,28 +18,9 @@ use Rattle.nc_cloud.specs.Deciding.{IsFirstToRise}
 abbrev pub chunk_of : ℕ → Live → List ℕ → ℕ → ℕ → List ℕ
 chunk_of n m v r c = combination (code_row m.code c r) v n
 
--- where the object of cloud c and row r is whole, it is sealed for its place with the chunk of the file v
-pub record IsSoundPlace (n : ℕ) (name : List ℕ) (m : Live) (v : List ℕ) (F : Contents) (r c : ℕ) : Type 0 where
-  pub whole : (bytes : List ℕ) → held_at n name m F c r ≡ Some bytes → Whole bytes → Sealed bytes c n (key_text (wanted_of n name m r c).key) (chunk_of n m v r c)
-
--- each place that the metadata names holds the right chunk of the file v, or none, or a broken one
-pub record SoundFor (n : ℕ) (name : List ℕ) (m : Live) (v : List ℕ) (F : Contents) : Type 0 where
-  pub places : (c r : ℕ) → c < n → r < 2 → IsSoundPlace n name m v F r c
-
 -- cloud c holds both chunks of the file v
 pub record HoldsChunksOf (n : ℕ) (name : List ℕ) (m : Live) (v : List ℕ) (F : Contents) (c : ℕ) : Type 0 where
   pub row : (r : ℕ) → r < 2 → HoldsPayload (wanted_of n name m r c) (held_at n name m F c r) (chunk_of n m v r c)
-
--- it does, and its marks are their digests
-pub record IsRightCloud (n : ℕ) (name : List ℕ) (m : Live) (v : List ℕ) (F : Contents) (c : ℕ) : Type 0 where
-  pub holds : HoldsChunksOf n name m v F c
-  pub marked : (r : ℕ) → r < 2 → sha256 (chunk_of n m v r c) ≡ slice_index_or m.marks (2 * c + r) []
-
--- all clouds of n but two are right, or more
-pub record AllButTwoAreRight (n : ℕ) (name : List ℕ) (m : Live) (v : List ℕ) (F : Contents) : Type 0 where
-  pub first : ℕ
-  pub second : ℕ
-  pub right : (c : ℕ) → c < n → c ≢ first → c ≢ second → IsRightCloud n name m v F c
 
 -- These are the first n - 2 good clouds of n, ascending: every other good cloud comes after them all.
 pub record AreFirstGood (n : ℕ) (name : List ℕ) (m : Live) (F : Contents) (clouds : List ℕ) : Type 0 where
@@ -73,12 +51,6 @@ abbrev pub IsShort : ℕ → List ℕ → Live → Contents → ReadFault → Ty
 IsShort n name m F (Short bads) = AreTooMany n name m F bads
 IsShort n name m F (Cloud c) = Unit {0}
 IsShort n name m F Memory = Unit {0}
-
--- the fault isn't Short
-abbrev pub IsNotShort : ReadFault → Type 0
-IsNotShort (Short bads) = ⊥
-IsNotShort (Cloud c) = Unit {0}
-IsNotShort Memory = Unit {0}
 
 -- a round's fault as that of the reading
 abbrev pub IsFaultOf : RoundFault → ReadFault → Type 0

@@ -5,6 +5,7 @@ ghost use Rattle.nc_cloud.specs.Fleet.{asked, Answers};
 ghost use Rattle.nc_cloud.specs.Rounds.{row as row_of};
 ghost use Rattle.nc_download.specs.Chunks.{chunk_ask, frame_len, wanted_of};
 ghost use Rattle.nc_cloud.specs.Deciding.{HasCause, IsSeen, OnlyLooked};
+ghost use Rattle.nc_cloud.specs.Stopping.{Stops};
 
 use crate::judging::Wanted;
 use nc_cloud::{Answer, Ask, Fleet, RoundFault, ask_round};
@@ -65,6 +66,7 @@ pub fn ask_row<F: Fleet>(
     ensures cause { IfErr result (HasCause F.counts_exactly (F.faults fleet.old) (F.faults fleet.new)) }
     ensures clean { F.counts_exactly → OnOk result ((c : ℕ) → F.faults fleet.new c ≡ F.faults fleet.old c) }
     ensures looked { OnlyLooked F.Fleet fleet.old fleet.new }
+    ensures stops { Stops F.Fleet fleet.old fleet.new (λ G. G ≡ F.held fleet.old) }
 {
     let width = fleet.width() as u8;
     let Ok(mut asks) = asks_for(alloc, width, name, live, row) else {

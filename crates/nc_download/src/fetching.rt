@@ -1,10 +1,11 @@
-ghost use Rattle.std.specs.Prelude.{◌<◌, ◌≡◌, ◌≤◌, ℕ, List, IfErr, IfOk, OnOk, length};
+ghost use Rattle.std.specs.Prelude.{◌<◌, ◌≡◌, ◌≤◌, ℕ, IfErr, IfOk, OnOk};
 ghost use Rattle.nc_download.specs.Fetching.{Fetches, HasFetchCause, ReadsNoChunk};
-ghost use Rattle.nc_meta.specs.declared.meta.Live.{Live as LiveMeta};
-ghost use Rattle.nc_download.specs.Giving.{GivesFile, IsHeld};
+ghost use Rattle.nc_download.specs.OnVaults.{FetchShows};
 ghost use Rattle.nc_download.specs.Showing.{SeesNoFile, SeesNoMeta, ShowsFile};
 ghost use Rattle.nc_download.specs.declared.fetching.FetchFault.TheVariants.{Memory as NoMemory};
 ghost use Rattle.nc_cloud.specs.Deciding.{OnlyLooked};
+ghost use Rattle.nc_cloud.specs.Stopping.{Stops};
+ghost use Rattle.nc_state.specs.Vaults.{ForEachVault};
 
 use crate::reading::{ReadFault, read_file};
 use crate::short::ShortList;
@@ -77,11 +78,12 @@ pub fn fetch<R: Threads + Sync, F: Fleet>(
     requires some_worker { 1 ≤ workers }
     requires few_workers { workers ≤ 16 }
     ensures fetches { F.tells → Fetches (F.clouds fleet.old) name.now (F.held fleet.old) result }
-    ensures gives { F.tells → (meta : LiveMeta) (v : List ℕ) → IsHeld (F.clouds fleet.old) name.now meta v (F.held fleet.old) → GivesFile v result }
+    ensures shows { F.tells → ForEachVault (F.clouds fleet.old) (F.held fleet.old) (FetchShows (F.clouds fleet.old) name.now result) }
     ensures cause { IfErr result (HasFetchCause F.counts_exactly (F.clouds fleet.old) (F.faults fleet.old) (F.faults fleet.new)) }
     ensures clean { F.counts_exactly → OnOk result ((c : ℕ) → c < F.clouds fleet.old → F.faults fleet.new c ≡ F.faults fleet.old c) }
     ensures unread { IfErr result (ReadsNoChunk (F.chunk_gets fleet.old) (F.chunk_gets fleet.new)) }
     ensures looked { OnlyLooked F.Fleet fleet.old fleet.new }
+    ensures stops { Stops F.Fleet fleet.old fleet.new (λ G. G ≡ F.held fleet.old) }
 {
     let view = look(alloc, fleet, name)?;
     let live = match shown(&view) {

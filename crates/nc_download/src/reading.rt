@@ -1,9 +1,10 @@
-ghost use Rattle.std.specs.Prelude.{◌≡◌, ◌≤◌, ℕ, List, IfErr, IfOk, OnOk, length};
+ghost use Rattle.std.specs.Prelude.{◌≡◌, ◌≤◌, ℕ, IfErr, IfOk, OnOk, length};
 ghost use Rattle.nc_code.specs.Codes.{IsMds};
 ghost use Rattle.nc_meta.specs.Metas.{IsLive};
 ghost use Rattle.nc_download.specs.declared.reading.ReadFault.TheVariants.{Cloud, Memory as NoMemory};
-ghost use Rattle.nc_download.specs.Reading.{AllButTwoAreRight, ComesFrom, HasReadCause, IsFaultOf, IsNotShort, IsShort};
+ghost use Rattle.nc_download.specs.Reading.{ComesFrom, HasReadCause, IsFaultOf, IsShort};
 ghost use Rattle.nc_cloud.specs.Deciding.{OnlyLooked};
+ghost use Rattle.nc_cloud.specs.Stopping.{Stops};
 
 use crate::asks::ask_row;
 use crate::short::ShortList;
@@ -69,10 +70,10 @@ pub fn read_file<R: Threads + Sync, F: Fleet>(
     ensures comes { F.tells → IfOk result (ComesFrom (F.clouds fleet.old) name.now live.now (F.held fleet.old)) }
     ensures length { IfOk result (λ file. length file ≡ live.now.len) }
     ensures short { F.tells → IfErr result (IsShort (F.clouds fleet.old) name.now live.now (F.held fleet.old)) }
-    ensures complete { F.tells → (v : List ℕ) → length v ≡ live.now.len → AllButTwoAreRight (F.clouds fleet.old) name.now live.now v (F.held fleet.old) → IfErr result IsNotShort }
     ensures cause { IfErr result (HasReadCause F.counts_exactly (F.faults fleet.old) (F.faults fleet.new)) }
     ensures clean { F.counts_exactly → OnOk result ((c : ℕ) → F.faults fleet.new c ≡ F.faults fleet.old c) }
     ensures looked { OnlyLooked F.Fleet fleet.old fleet.new }
+    ensures stops { Stops F.Fleet fleet.old fleet.new (λ G. G ≡ F.held fleet.old) }
 {
     let width = fleet.width() as u8;
     let zeros = ask_row(alloc, fleet, name, live, 0)?;

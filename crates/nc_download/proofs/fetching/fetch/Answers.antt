@@ -3,7 +3,7 @@ use Rattle.nc_download.specs.declared.fetching.FetchFault.TheVariants.{Short, Un
 use Rattle.nc_download.specs.declared.reading.ReadFault.{ReadFault}
 use Rattle.nc_download.specs.Reading.{HasReadCause, IsShort}
 use Rattle.nc_download.proofs.FetchLaws.{shown_held, refused_held, clean, refused_cause, later_cause, comes_back, nothing_read, short_of}
-use Rattle.nc_download.proofs.GivingLaws.{gives}
+use Rattle.nc_download.proofs.ShownLaws.{shows_each}
 use Rattle.nc_download.proofs.fetching.fetch.Goals as goal
 
 pub returns-in-Err-clause-fetches : goal.returns-in-Err-clause-fetches
@@ -45,17 +45,17 @@ pub returns-in-Err-Short-clause-cause : goal.returns-in-Err-Short-clause-cause
 returns-in-Err-Short-clause-cause g c told d l =
     subst (λ (f : ReadFault). HasReadCause g.F.Fleet.counts_exactly (g.F.Fleet.faults c.look.new.fleet) (g.F.Fleet.faults c.read_file.new.fleet) f) c.in-Err-Short.field-0-is c.in-Err-Short.ensures.cause told d ∙ clean _ _ c.in_ok-view.ensures.width _ _ _ c.in_ok-view.ensures.failed c.in_ok-view.ensures.exact c.in-Ok.ensures.shown.answered told d l
 
-pub returns-in-Err-clause-gives : goal.returns-in-Err-clause-gives
-returns-in-Err-clause-gives g c told meta v held = gives _ _ _ _ _ c.requires.wide c.requires.narrow held (Err c.in-Err.fault) (returns-in-Err-clause-fetches g c told)
+pub returns-in-Err-clause-shows : goal.returns-in-Err-clause-shows
+returns-in-Err-clause-shows g c told = shows_each _ _ _ c.in_ok-view.ensures.valid (Err c.in-Err.fault) (returns-in-Err-clause-fetches g c told)
 
-pub returns-in-Fails-clause-gives : goal.returns-in-Fails-clause-gives
-returns-in-Fails-clause-gives g c told meta v held = gives _ _ _ _ _ c.requires.wide c.requires.narrow held (Err (Unsound c.in-Fails.a c.in-Fails.b)) (returns-in-Fails-clause-fetches g c told)
+pub returns-in-Fails-clause-shows : goal.returns-in-Fails-clause-shows
+returns-in-Fails-clause-shows g c told = shows_each _ _ _ c.in_ok-view.ensures.valid (Err (Unsound c.in-Fails.a c.in-Fails.b)) (returns-in-Fails-clause-fetches g c told)
 
-pub returns-in-Ok-read_file-clause-gives : goal.returns-in-Ok-read_file-clause-gives
-returns-in-Ok-read_file-clause-gives g c told meta v held = gives _ _ _ _ _ c.requires.wide c.requires.narrow held (Ok c.in-Ok-read_file.file) (returns-in-Ok-read_file-clause-fetches g c told)
+pub returns-in-Ok-read_file-clause-shows : goal.returns-in-Ok-read_file-clause-shows
+returns-in-Ok-read_file-clause-shows g c told = shows_each _ _ _ c.in_ok-view.ensures.valid (Ok c.in-Ok-read_file.file) (returns-in-Ok-read_file-clause-fetches g c told)
 
-pub returns-in-Err-Short-clause-gives : goal.returns-in-Err-Short-clause-gives
-returns-in-Err-Short-clause-gives g c told meta v held = gives _ _ _ _ _ c.requires.wide c.requires.narrow held (Err (Short c.in-Err-Short.bad)) (returns-in-Err-Short-clause-fetches g c told)
+pub returns-in-Err-Short-clause-shows : goal.returns-in-Err-Short-clause-shows
+returns-in-Err-Short-clause-shows g c told = shows_each _ _ _ c.in_ok-view.ensures.valid (Err (Short c.in-Err-Short.bad)) (returns-in-Err-Short-clause-fetches g c told)
 
 pub returns-in-Err-clause-unread : goal.returns-in-Err-clause-unread
 returns-in-Err-clause-unread g c = nothing_read _ _ c.in-Err.fault c.in_ok-view.ensures.gets
