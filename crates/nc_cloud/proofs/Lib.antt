@@ -1,3 +1,4 @@
+pub mod Counts
 pub mod Decisions
 mod FanGets
 mod FanPuts
@@ -5,6 +6,7 @@ pub mod Fans
 pub mod Images
 mod KeyOrder
 pub mod Keys
+mod NoEntries
 pub mod Rounds
 mod SeatLaws
 pub mod SomeRows

@@ -9,6 +9,13 @@ use Rattle.nc_cloud.specs.Images.{write_at, ImageCloud, Image, WrittenCloud, Wri
 use Rattle.nc_cloud.specs.Rounds.{row, some_row}
 use Rattle.nc_cloud.specs.Deciding.{AreAscending}
 
+-- entries that are the same cloud by cloud
+pub some_same : {X : Type 0} (f g : ℕ → Option X) (a k : ℕ) → ((c : ℕ) → a ≤ c → c < a + k → f c ≡ g c) → some_row f a k ≡ some_row g a k
+some_same f g a zero each = refl
+some_same f g a (suc k) each =
+    ap (λ o. option_to_list o ++ some_row f (suc a) k) (each a (omega arith) (omega arith))
+    ∙ ap (λ xs. option_to_list (g a) ++ xs) (some_same f g (suc a) k (λ c low high. each c (omega arith) (omega arith)))
+
 -- where all clouds have an entry, it is a row
 pub some_all : {X : Type 0} (g : ℕ → X) (a k : ℕ) → some_row (λ c. Some (g c)) a k ≡ row g a k
 some_all g a zero = refl

@@ -8,7 +8,7 @@ use Rattle.nc_cloud.specs.declared.fleet.Answer.TheVariants as answer
 use Rattle.nc_cloud.specs.Contents.{Rose, Grows, Write}
 use Rattle.nc_cloud.specs.Fleet.{writes}
 use Rattle.nc_cloud.specs.Images.{Image, Written}
-use Rattle.nc_cloud.specs.Stopping.{Keeps}
+use Rattle.nc_cloud.specs.Stopping.{GoesOn, Keeps}
 use Rattle.nc_cloud.specs.declared.fleet.Fleet.{Ghosts as FleetGhosts}
 use Rattle.nc_cloud.specs.declared.deciding.RoundFault.{RoundFault}
 use Rattle.nc_cloud.specs.declared.deciding.RoundFault.TheVariants.{Cloud, Memory}
@@ -85,3 +85,4 @@ pub record Wrote {A : Type 0} (F : FleetGhosts A) (ps : List Write) (ended : Lis
   pub clouds : F.clouds new ≡ F.clouds old
   pub grows : Grows (F.faults old) (F.faults new)
   pub gets : F.chunk_gets new ≡ F.chunk_gets old
+  pub time : GoesOn F old new

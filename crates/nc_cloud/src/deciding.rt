@@ -99,11 +99,15 @@ pub fn ask_round<F: Fleet>(fleet: &mut F, asks: &mut [Ask]) -> Result<(), RoundF
 }
 
 /// A round of writes, on some clouds in ascending order, which are let go afterwards. The least entry that isn't Ok decides.
+/// Where there are none, no round is made.
 pub fn write_row<F: Fleet>(fleet: &mut F, mut jobs: Vec<Job>) -> Result<(), RoundFault>
     requires ready { F.ready }
     requires clouds { AreAscending (λ j. j.cloud) (F.clouds fleet.old) jobs.items }
     requires whole { All (λ j. Whole j.bytes) jobs.items }
     ensures wrote { (ended : List Job) × Wrote F.Fleet (writes jobs.items) ended fleet.old fleet.new result }
 {
+    if jobs.is_empty() {
+        return Ok(());
+    }
     write_round(fleet, &mut jobs)
 }

@@ -4,3 +4,7 @@ pub mod Views
 pub mod Looks
 pub mod Steps
 pub mod Seen
+pub mod MetaJobs
+pub mod SettleWrites
+pub mod SettleStates
+pub mod SettleFaults

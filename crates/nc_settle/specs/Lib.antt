@@ -5,3 +5,5 @@ pub mod Looking
 pub mod Decisions
 pub mod Tops
 pub mod Elsewhere
+pub mod MetaWrites
+pub mod Settling

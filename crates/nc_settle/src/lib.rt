@@ -1,16 +1,20 @@
-//! What the clouds hold of a file's metadata, and what follows from it.
+//! What the clouds hold of a file's metadata, what follows from it, and how a name is brought to rest.
 #![tactic(auto)]
 
 mod asking;
 mod deciding;
 mod judging;
 mod looking;
+mod metas;
 mod place;
 mod settled;
+mod settling;
 mod view;
 
 pub use deciding::{Conflict, Misplaced, Top};
 pub use looking::look;
+pub use metas::meta_jobs;
 pub use place::Place;
-pub use settled::Settled;
+pub use settled::{SettleFault, Settled};
+pub use settling::settle;
 pub use view::View;

@@ -1,7 +1,10 @@
 ghost use Rattle.std.specs.Prelude.{◌≡◌};
 ghost use Rattle.nc_state.specs.Holding.{top_generation};
+ghost use Rattle.nc_settle.specs.declared.settled.SettleFault.TheVariants.{Memory as NoMemory};
 
 use nc_meta::Meta;
+use nc_name::Memory;
+use thiserror::Error;
 
 /// What a name was settled on: the metadata that all clouds hold, where there is some.
 #[derive(Clone, Copy, Debug)]
@@ -18,5 +21,38 @@ impl Settled {
             None => 0,
             Some(meta) => meta.generation(),
         }
+    }
+}
+
+/// Why a name wasn't settled.
+#[derive(Clone, Copy, Debug, PartialEq, Eq, Error)]
+pub enum SettleFault {
+    /// This is the least cloud that failed in the look, or in the round of writes.
+    #[error("cloud {0} failed")]
+    Cloud(u8),
+    /// This is the least cloud that holds metadata of another cloud or width.
+    #[error("cloud {cloud} holds metadata of cloud {said_cloud} of {said_width}")]
+    Misplaced {
+        cloud: u8,
+        said_cloud: u8,
+        said_width: u8,
+    },
+    /// Clouds `a` and `b` hold different metadata of the highest generation.
+    #[error("clouds {a} and {b} hold different metadata of generation {generation}")]
+    Conflict {
+        generation: u64,
+        a: u8,
+        b: u8,
+    },
+    /// No memory was found.
+    #[error("no memory was found")]
+    Memory,
+}
+
+impl From<Memory> for SettleFault {
+    ghost from_gives = { λ _ fault. fault ≡ NoMemory };
+
+    fn from(_memory: Memory) -> SettleFault {
+        SettleFault::Memory
     }
 }
