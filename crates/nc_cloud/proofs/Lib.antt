@@ -1,7 +1,9 @@
 pub mod Counts
 pub mod Decisions
+pub mod Entries
 mod FanGets
 mod FanPuts
+mod FanRounds
 pub mod Fans
 pub mod Images
 mod KeyOrder

@@ -1,6 +1,5 @@
 -- Rounds with an entry for each cloud, or for some.
-use Rattle.std.specs.Prelude.{ℕ, zero, suc, Option, None, Some, List, [], ◌∷◌, ◌++◌, option_to_list}
-use Rattle.nc_frame.specs.Frames.{Whole}
+use Rattle.std.specs.Prelude.{ℕ, zero, suc, Option, List, [], ◌∷◌, ◌++◌, option_to_list}
 
 -- f a, f (a + 1), .., k of them: one for each cloud from a on
 abbrev pub row : {X : Type 0} → (ℕ → X) → ℕ → ℕ → List X
@@ -11,8 +10,3 @@ row f a (suc k) = f a ∷ row f (suc a) k
 abbrev pub some_row : {X : Type 0} → (ℕ → Option X) → ℕ → ℕ → List X
 some_row f a zero = []
 some_row f a (suc k) = option_to_list (f a) ++ some_row f (suc a) k
-
--- the bytes that an object is to become are a whole frame
-abbrev pub IsWhole : Option (List ℕ) → Type 0
-IsWhole None = ⊥
-IsWhole (Some bytes) = Whole bytes

@@ -52,25 +52,25 @@ contents_at held clouds = λ c. slice_index_or (map held clouds) c (λ key. None
 abbrev pub count_at : {C : Type 0} → (C → ℕ) → List C → ℕ → ℕ
 count_at count clouds = λ c. slice_index_or (map count clouds) c 0
 
+-- what a cloud that served an entry says of its counts of failures, beside its answer
+pub record Ended {C A : Type 0} (K : CloudGhosts C) (waiting failure : A) (given : A) (old new : C) : Type 0 where
+  pub answered : given ≢ waiting
+  pub failed : given ≡ failure → Rose (K.faults old) (K.faults new)
+  pub exact : K.counts_exactly → given ≢ failure → K.faults new ≡ K.faults old
+  pub later : K.faults old ≤ K.faults new
+  pub slips : K.slips new ≡ K.slips old
+
 -- a cloud that served a get, with its answer
 pub record DidGet {C : Type 0} (K : CloudGhosts C) (a : Ask) (old new : Seat C) : Type 0 where
   pub told : K.tells → Shows new.answer a.most (K.held old.cloud a.key)
-  pub answered : new.answer ≢ answer.Waiting
   pub held_stays : K.held new.cloud ≡ K.held old.cloud
-  pub failed : new.answer ≡ answer.Failed → Rose (K.faults old.cloud) (K.faults new.cloud)
-  pub exact : K.counts_exactly → new.answer ≢ answer.Failed → K.faults new.cloud ≡ K.faults old.cloud
-  pub later : K.faults old.cloud ≤ K.faults new.cloud
-  pub slips : K.slips new.cloud ≡ K.slips old.cloud
+  pub ended : Ended K answer.Waiting answer.Failed new.answer old.cloud new.cloud
   pub gets : K.chunk_gets new.cloud ≡ got_count (K.chunk_gets old.cloud) (if is_chunk a.key && is_bytes new.answer then 1 else 0)
 
 -- a cloud that served a put, with its answer
 pub record DidPut {C : Type 0} (K : CloudGhosts C) (j : Job) (old new : Seat C) : Type 0 where
   pub told : K.tells → ChangesAt j.key (Settles (is_done new.done) (Some j.bytes)) (K.held old.cloud) (K.held new.cloud)
-  pub answered : new.done ≢ done.Waiting
-  pub failed : new.done ≡ done.Failed → Rose (K.faults old.cloud) (K.faults new.cloud)
-  pub exact : K.counts_exactly → new.done ≢ done.Failed → K.faults new.cloud ≡ K.faults old.cloud
-  pub later : K.faults old.cloud ≤ K.faults new.cloud
-  pub slips : K.slips new.cloud ≡ K.slips old.cloud
+  pub ended : Ended K done.Waiting done.Failed new.done old.cloud new.cloud
   pub gets : K.chunk_gets new.cloud ≡ K.chunk_gets old.cloud
 
 -- a seat after a round: without an entry it stays

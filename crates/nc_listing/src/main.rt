@@ -4,8 +4,7 @@
 
 use nc_cloud::{Cloud, CloudError, KeyList};
 use nc_folder::FolderCloud;
-use std::env;
-use std::io;
+use std::{env, io};
 
 fn main(rt: HostRuntime) -> io::Result<()> {
     let words: Vec<String> = env::args(&rt)?.collect(rt.alloc())?;

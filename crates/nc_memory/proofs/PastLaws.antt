@@ -2,7 +2,6 @@
 use Rattle.std.proofs.Common.{◌≡◌, ℕ, zero, suc, ◌≤◌, ◌⊎◌, List, [], ◌∷◌, ◌++◌, map, length, take, drop, length-append, refl, sym, ap, subst, arith, All, inl, inr}
 use Rattle.std.proofs.lemmas.List.{take-append-le}
 use Rattle.nc_frame.specs.Frames.{Whole}
-use Rattle.nc_cloud.specs.declared.fleet.Ask.{Ask}
 use Rattle.nc_cloud.specs.declared.fleet.Job.{Job}
 use Rattle.nc_cloud.specs.Contents.{Contents, Write, nothing}
 use Rattle.nc_cloud.specs.Fleet.{write, writes}
@@ -13,13 +12,9 @@ use Rattle.nc_memory.specs.declared.record.Event.{Event}
 use Rattle.nc_memory.specs.declared.record.Event.TheVariants.{Gets, Puts, Planted}
 use Rattle.nc_memory.specs.declared.record.Look.{Look}
 use Rattle.nc_memory.specs.declared.record.Refusal.{Refusal}
-use Rattle.nc_memory.specs.declared.record.Step.{Step}
-use Rattle.nc_memory.specs.declared.memory.MemFleet.{MemFleet}
-use Rattle.nc_memory.specs.Record.{contents_after, done_jobs, look_of, step_at, step_of, step_value, steps_of}
-use Rattle.nc_memory.specs.Memory.{contents_of, entries_of, gets_event, log_of, puts_event, refusals_of, ServesGets, ServesPuts}
-use Rattle.nc_memory.specs.Memory.ServesGets.{starved, served}
-use Rattle.nc_memory.specs.Memory.ServesPuts.{starved as puts_starved, served as puts_served}
-use Rattle.nc_memory.specs.Moments.{ImageIn, image_of, now_of, past_of, step_write}
+use Rattle.nc_memory.specs.Record.{contents_after, done_jobs, step_at, step_of, step_value, steps_of}
+use Rattle.nc_memory.specs.Memory.{gets_event, puts_event}
+use Rattle.nc_memory.specs.Moments.{ImageIn, step_write}
 use Rattle.nc_memory.proofs.Numbered.{map-numbered}
 use Rattle.nc_memory.proofs.RecordLaws.{leaves_puts, places_same}
 
@@ -57,35 +52,29 @@ image_kept (e ∷ es) more zero F G le is =
 image_kept (e ∷ es) more (suc t) F G le is = image_kept es more t (contents_after (e ∷ []) F) G (omega arith) is
 
 -- a record as moments
-abbrev since : List Event → ℕ → Contents → Type 0
+abbrev pub since : List Event → ℕ → Contents → Type 0
 since log t G = ImageIn (drop t log) (contents_after (take t log) nothing) G
 
-abbrev before : List Event → ℕ → Contents
+abbrev pub before : List Event → ℕ → Contents
 before log t = contents_after (take t log) nothing
 
-elapses_none : (log : List Event) (one : Contents → Type 0) → Elapses (length log) (length log) (since log) (since log) one
-elapses_none log one = record { later = omega arith; nothing_else = λ t G le is. inl is; keeps = λ t G le is. is }
-
-elapses_more : (log more : List Event) (one : Contents → Type 0) → ((G : Contents) → ImageIn more (contents_after log nothing) G → one G) → Elapses (length log) (length (log ++ more)) (since log) (since (log ++ more)) one
+pub elapses_more : (log more : List Event) (one : Contents → Type 0) → ((G : Contents) → ImageIn more (contents_after log nothing) G → one G) → Elapses (length log) (length (log ++ more)) (since log) (since (log ++ more)) one
 elapses_more log more one only = record {
   later = omega (arith, length-append log more);
   nothing_else = λ t G le is. elim (image_more log more t nothing G le is) [ inl was ↦ inl was | inr new ↦ inr (only G new) ];
   keeps = λ t G le is. image_kept log more t nothing G le is;
 }
 
-stays_more : (log more : List Event) → Stays (length log) (before log) (before (log ++ more))
+pub stays_more : (log more : List Event) → Stays (length log) (before log) (before (log ++ more))
 stays_more log more = record { each = λ t le. ap (λ es. contents_after es nothing) (take-append-le t log more le) }
 
-stays_same : (log : List Event) → Stays (length log) (before log) (before log)
-stays_same log = record { each = λ t le. refl }
-
 -- the images of a round of gets
-gets_only : (looks : List Look) (F G : Contents) → ImageIn (gets_event looks) F G → G ≡ F
+pub gets_only : (looks : List Look) (F G : Contents) → ImageIn (gets_event looks) F G → G ≡ F
 gets_only [] F G is = is
 gets_only (look ∷ looks) F G is = elim is [ inl here ↦ here | inr after ↦ after ]
 
 -- the images of a round of puts
-puts_only : (refusals : List Refusal) (n : ℕ) (jobs : List Job) (F G : Contents) → All (λ j. Whole j.bytes) jobs → ImageIn (puts_event (steps_of refusals n jobs)) F G → Image (writes jobs) F G
+pub puts_only : (refusals : List Refusal) (n : ℕ) (jobs : List Job) (F G : Contents) → All (λ j. Whole j.bytes) jobs → ImageIn (puts_event (steps_of refusals n jobs)) F G → Image (writes jobs) F G
 puts_only refusals n [] F G whole is = subst (λ (H : Contents). Image [] F H) (sym is) (image_none [] F)
 puts_only refusals n (j ∷ jobs) F G whole is =
     let left : Contents = λ c key. step_value (step_at (steps_of refusals n (j ∷ jobs)) c) key (F c key) in
@@ -95,34 +84,3 @@ puts_only refusals n (j ∷ jobs) F G whole is =
       | inl here ↦ subst (λ (ps : List Write). Image ps F G) (map-numbered (step_of refusals) step_write write (λ k x. refl) n (j ∷ jobs)) here
       | inr after ↦ subst (λ (H : Contents). Image (writes (j ∷ jobs)) F H) (sym after) end
     ]
-
--- a round of gets
-module _ {old new : MemFleet} {asks left : List Ask} where
-  pub gets_time : ServesGets old new asks left → Elapses (now_of old) (now_of new) (image_of old) (image_of new) (λ G. G ≡ contents_of old)
-  gets_time (starved answers same) =
-      subst (λ (es : List Event). Elapses (now_of old) (length es) (image_of old) (since es) (λ G. G ≡ contents_of old)) (sym same.log) (elapses_none (log_of old) (λ G. G ≡ contents_of old))
-  gets_time (served gives) =
-      subst (λ (es : List Event). Elapses (now_of old) (length es) (image_of old) (since es) (λ G. G ≡ contents_of old)) (sym gives.log)
-      (elapses_more (log_of old) (gets_event (map look_of left)) (λ G. G ≡ contents_of old) (gets_only (map look_of left) (contents_of old)))
-
-  pub gets_past : ServesGets old new asks left → Stays (now_of old) (past_of old) (past_of new)
-  gets_past (starved answers same) = subst (λ (es : List Event). Stays (now_of old) (past_of old) (before es)) (sym same.log) (stays_same (log_of old))
-  gets_past (served gives) = subst (λ (es : List Event). Stays (now_of old) (past_of old) (before es)) (sym gives.log) (stays_more (log_of old) (gets_event (map look_of left)))
-
--- a round of puts
-module _ {old new : MemFleet} {jobs left : List Job} where
-  pub puts_time : All (λ j. Whole j.bytes) jobs → ServesPuts old new jobs left → Elapses (now_of old) (now_of new) (image_of old) (image_of new) (Image (writes jobs) (contents_of old))
-  puts_time whole (puts_starved answers same) =
-      subst (λ (es : List Event). Elapses (now_of old) (length es) (image_of old) (since es) (Image (writes jobs) (contents_of old))) (sym same.log)
-      (elapses_none (log_of old) (Image (writes jobs) (contents_of old)))
-  puts_time whole (puts_served takes) =
-      let steps : List Step = steps_of (refusals_of old) (entries_of old) jobs in
-      subst (λ (es : List Event). Elapses (now_of old) (length es) (image_of old) (since es) (Image (writes jobs) (contents_of old))) (sym takes.log)
-      (elapses_more (log_of old) (puts_event steps) (Image (writes jobs) (contents_of old))
-      (λ G is. puts_only (refusals_of old) (entries_of old) jobs (contents_of old) G whole is))
-
-  pub puts_past : ServesPuts old new jobs left → Stays (now_of old) (past_of old) (past_of new)
-  puts_past (puts_starved answers same) = subst (λ (es : List Event). Stays (now_of old) (past_of old) (before es)) (sym same.log) (stays_same (log_of old))
-  puts_past (puts_served takes) =
-      subst (λ (es : List Event). Stays (now_of old) (past_of old) (before es)) (sym takes.log)
-      (stays_more (log_of old) (puts_event (steps_of (refusals_of old) (entries_of old) jobs)))

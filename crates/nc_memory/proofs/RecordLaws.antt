@@ -24,8 +24,9 @@ use Rattle.nc_memory.specs.declared.record.Look.{Look}
 use Rattle.nc_memory.specs.declared.record.Step.{Step}
 use Rattle.nc_memory.specs.declared.record.Event.{Event}
 use Rattle.nc_memory.specs.declared.record.Event.TheVariants.{Gets, Puts, Planted}
+use Rattle.nc_cloud.proofs.Entries.{tally_none}
 use Rattle.nc_cloud.proofs.Keys.{key_eq-Decides}
-use Rattle.nc_cloud.specs.Contents.{Contents, Store, Rose, Settles, ChangesAt, Touch, touch_at, LeavesCloud, Leaves, key_eq, nothing}
+use Rattle.nc_cloud.specs.Contents.{Contents, Store, Rose, Grows, Settles, ChangesAt, Touch, touch_at, LeavesCloud, Leaves, key_eq, nothing}
 use Rattle.nc_cloud.specs.Contents.Fate.{stayed, became, went, broke}
 use Rattle.nc_cloud.specs.Fleet.{asked, write, writes, is_done, touch, touches, Answers, Shows, is_failed, is_bytes, is_chunk, tally, chunks_got, got_count}
 use Rattle.nc_memory.specs.Record.{numbered, refused_at, done_of, answer_of, look_of, step_of, steps_of, step_at, left, step_value, value_after, value, contents_after, answered_ask, answered_asks, done_job, done_jobs, starved_ask, starved_job, failed_in, failures, counted, gifts, given_in}
@@ -106,136 +107,83 @@ pub failures-more : (es : List Event) (e : Event) (c : ℕ) → failures (es ++ 
 failures-more [] e c = omega arith
 failures-more (f ∷ es) e c = let more : _ ≡ _ = failures-more es e c in omega (arith, more)
 
-abbrev once : Bool → ℕ
-once b = if b then 1 else 0
-
 tally_some : {X : Type 0} (p : X → Bool) (xs : List X) (i : ℕ) (d : X) → i < length xs → p (get_or xs i d) ≡ true → 1 ≤ tally p xs
 tally_some p [] i d l is = absurd (omega arith)
-tally_some p (x ∷ xs) zero d l is = let one : once (p x) ≡ once true = ap once is in omega (arith, one)
+tally_some p (x ∷ xs) zero d l is = rw is (omega arith)
 tally_some p (x ∷ xs) (suc i) d l is = let more : 1 ≤ tally p xs = tally_some p xs i d (omega arith) is in omega (arith, more)
-
-tally_none : {X : Type 0} (p : X → Bool) (xs : List X) → All (λ x. p x ≡ false) xs → tally p xs ≡ 0
-tally_none p [] none = refl
-tally_none p (x ∷ xs) none =
-    let zero' : once (p x) ≡ once false = ap once (none 0 x (omega arith)) in
-    let more : tally p xs ≡ 0 = tally_none p xs (λ k d l. none (suc k) d (omega arith)) in
-    omega (arith, zero', more)
 
 tally-map : {X Y : Type 0} (p : Y → Bool) (f : X → Y) (xs : List X) → tally p (map f xs) ≡ tally (λ x. p (f x)) xs
 tally-map p f [] = refl
-tally-map p f (x ∷ xs) = ap (λ n. once (p (f x)) + n) (tally-map p f xs)
+tally-map p f (x ∷ xs) = ap (λ n. (if p (f x) then 1 else 0) + n) (tally-map p f xs)
 
-is_failed_done : Done → Bool
+tally-numbered : {A B C : Type 0} (p : B → Bool) (q : C → Bool) (g : ℕ → A → B) (h : ℕ → A → C) → ((k : ℕ) (x : A) → p (g k x) ≡ q (h k x)) → (n : ℕ) (xs : List A) → tally p (numbered g n xs) ≡ tally q (numbered h n xs)
+tally-numbered p q g h same n [] = refl
+tally-numbered p q g h same n (x ∷ xs) = ap₂ (λ b k. (if b then 1 else 0) + k) (same (n + 1) x) (tally-numbered p q g h same (n + 1) xs)
+
+-- a put that failed
+abbrev pub is_failed_done : Done → Bool
 is_failed_done done.Failed = true
 is_failed_done done.Ok = false
 is_failed_done done.Waiting = false
 is_failed_done done.Memory = false
 
-tally-numbered : {A B C : Type 0} (p : B → Bool) (q : C → Bool) (g : ℕ → A → B) (h : ℕ → A → C) → ((k : ℕ) (x : A) → p (g k x) ≡ q (h k x)) → (n : ℕ) (xs : List A) → tally p (numbered g n xs) ≡ tally q (numbered h n xs)
-tally-numbered p q g h same n [] = refl
-tally-numbered p q g h same n (x ∷ xs) = ap₂ (λ b k. once b + k) (same (n + 1) x) (tally-numbered p q g h same (n + 1) xs)
+-- an entry that failed on this cloud
+abbrev pub failed_on : {X : Type 0} → (X → ℕ) → (X → Bool) → ℕ → X → Bool
+failed_on cloud has_failed c x = nat_eq (cloud x) c && has_failed x
 
--- how many gets, and how many puts, of a round failed on a cloud
-failed_ask : ℕ → Ask → Bool
-failed_ask c a = nat_eq a.cloud c && is_failed a.answer
-
-failed_job : ℕ → Job → Bool
-failed_job c j = nat_eq j.cloud c && is_failed_done j.done
-
-failures_after_gets : (log : List Event) (asks : List Ask) (c : ℕ) → failures (log ++ gets_event (map look_of asks)) c ≡ failures log c + tally (failed_ask c) asks
-unfolding failed_ask
+pub failures_after_gets : (log : List Event) (asks : List Ask) (c : ℕ) → failures (log ++ gets_event (map look_of asks)) c ≡ failures log c + tally (failed_on (λ a. a.cloud) (λ a. is_failed a.answer) c) asks
 failures_after_gets log [] c = ap (λ es. failures es c) (append-nil log) ∙ omega arith
 failures_after_gets log (a ∷ asks) c =
     failures-more log (Gets (map look_of (a ∷ asks))) c
     ∙ ap (λ n. failures log c + n) (tally-map (λ l. nat_eq l.cloud c && l.failed) look_of (a ∷ asks))
 
 same_failed : (refused : Option Torn) → is_some refused ≡ is_failed_done (done_of refused)
-unfolding is_failed_done
 same_failed None = refl
 same_failed (Some outcome) = refl
 
-failures_after_puts : (log : List Event) (refusals : List Refusal) (n : ℕ) (jobs : List Job) (c : ℕ) → failures (log ++ puts_event (steps_of refusals n jobs)) c ≡ failures log c + tally (failed_job c) (done_jobs refusals n jobs)
-unfolding failed_job
+pub failures_after_puts : (log : List Event) (refusals : List Refusal) (n : ℕ) (jobs : List Job) (c : ℕ) → failures (log ++ puts_event (steps_of refusals n jobs)) c ≡ failures log c + tally (failed_on (λ j. j.cloud) (λ j. is_failed_done j.done) c) (done_jobs refusals n jobs)
 failures_after_puts log refusals n [] c = ap (λ es. failures es c) (append-nil log) ∙ omega arith
 failures_after_puts log refusals n (j ∷ jobs) c =
     failures-more log (Puts (steps_of refusals n (j ∷ jobs))) c
     ∙ ap (λ k. failures log c + k)
-    (tally-numbered (λ s. nat_eq s.cloud c && s.failed) (failed_job c) (step_of refusals) (done_job refusals)
+    (tally-numbered (λ s. nat_eq s.cloud c && s.failed) (failed_on (λ j. j.cloud) (λ j. is_failed_done j.done) c) (step_of refusals) (done_job refusals)
     (λ k x. ap (λ b. nat_eq x.cloud c && b) (same_failed (refused_at refusals k))) n (j ∷ jobs))
 
--- a count after a round
-count_rose : (before more : ℕ) → 1 ≤ more → Rose (counted before) (counted (before + more))
-count_rose before more l = omega arith
-
-count_stays : (before more : ℕ) → more ≡ 0 → counted (before + more) ≡ counted before
-count_stays before more e = omega arith
-
-count_grows : (before more : ℕ) → counted before ≤ counted (before + more)
-count_grows before more = omega arith
-
-and_false : (a b : Bool) → (a ≡ true → b ≡ true → ⊥) → (a && b) ≡ false
-and_false true true none = absurd (none refl refl)
-and_false true false none = refl
+pub and_false : (a b : Bool) → (a ≡ true → b ≡ false) → (a && b) ≡ false
+and_false true b none = none refl
 and_false false b none = refl
 
-failed_is : (a : Answer) → is_failed a ≡ true → a ≡ Failed
-failed_is Failed e = refl
-failed_is (Bytes bytes) e = cc
-failed_is Absent e = cc
-failed_is Long e = cc
-failed_is Memory e = cc
-failed_is Waiting e = cc
+pub not_failed : (a : Answer) → a ≢ Failed → is_failed a ≡ false
+not_failed Failed ne = absurd (ne refl)
+not_failed (Bytes bytes) ne = refl
+not_failed Absent ne = refl
+not_failed Long ne = refl
+not_failed Memory ne = refl
+not_failed Waiting ne = refl
 
-failed_done_is : (d : Done) → is_failed_done d ≡ true → d ≡ done.Failed
-unfolding is_failed_done
-failed_done_is done.Failed e = refl
-failed_done_is done.Ok e = cc
-failed_done_is done.Waiting e = cc
-failed_done_is done.Memory e = cc
+pub not_failed_done : (d : Done) → d ≢ done.Failed → is_failed_done d ≡ false
+not_failed_done done.Failed ne = absurd (ne refl)
+not_failed_done done.Ok ne = refl
+not_failed_done done.Waiting ne = refl
+not_failed_done done.Memory ne = refl
 
-failed_here : (c : ℕ) (a : Ask) → a.cloud ≡ c → a.answer ≡ Failed → failed_ask c a ≡ true
-unfolding failed_ask
-failed_here c a is e = ap₂ (λ x y. x && y) (eq-eqb a.cloud c is) (ap is_failed e)
+-- a count after entries of any kind, of which some failed
+module _ {X : Type 0} (cloud : X → ℕ) (has_failed : X → Bool) (xs : List X) (before now : ℕ → ℕ) (more : (c : ℕ) → now c ≡ before c + tally (failed_on cloud has_failed c) xs) where
+  pub counted_rose : All (λ x. has_failed x ≡ true → Rose (counted (before (cloud x))) (counted (now (cloud x)))) xs
+  counted_rose k d l e =
+      let c : ℕ = cloud (get_or xs k d) in
+      let some : 1 ≤ tally (failed_on cloud has_failed c) xs = tally_some (failed_on cloud has_failed c) xs k d l (ap₂ (λ a b. a && b) (eq-eqb c c refl) e) in
+      let after : now c ≡ before c + tally (failed_on cloud has_failed c) xs = more c in
+      omega arith
 
-failed_job_here : (c : ℕ) (j : Job) → j.cloud ≡ c → j.done ≡ done.Failed → failed_job c j ≡ true
-unfolding failed_job is_failed_done
-failed_job_here c j is e = ap₂ (λ x y. x && y) (eq-eqb j.cloud c is) (ap is_failed_done e)
+  pub counted_exact : (c : ℕ) → All (λ x. cloud x ≡ c → has_failed x ≡ false) xs → counted (now c) ≡ counted (before c)
+  counted_exact c none =
+      let few : tally (failed_on cloud has_failed c) xs ≡ 0 = tally_none (failed_on cloud has_failed c) xs (λ k d l. and_false _ _ (λ e. none k d l (eqb-true (cloud (get_or xs k d)) c e))) in
+      let after : now c ≡ before c + tally (failed_on cloud has_failed c) xs = more c in
+      omega arith
 
-none_here : (c : ℕ) (a : Ask) → (a.cloud ≡ c → a.answer ≢ Failed) → failed_ask c a ≡ false
-unfolding failed_ask
-none_here c a none = and_false _ _ (λ x y. none (eqb-true a.cloud c x) (failed_is a.answer y))
-
-none_job_here : (c : ℕ) (j : Job) → (j.cloud ≡ c → j.done ≢ done.Failed) → failed_job c j ≡ false
-unfolding failed_job
-none_job_here c j none = and_false _ _ (λ x y. none (eqb-true j.cloud c x) (failed_done_is j.done y))
-
--- the counts after a round of gets
-module _ (log : List Event) (asks : List Ask) where
-  pub gets_rose : All (λ a. a.answer ≡ Failed → Rose (counted (failures log a.cloud)) (counted (failures (log ++ gets_event (map look_of asks)) a.cloud))) asks
-  gets_rose k d l e =
-      let c : ℕ = (get_or asks k d).cloud in
-      subst (λ n. Rose (counted (failures log c)) (counted n)) (sym (failures_after_gets log asks c))
-      (count_rose (failures log c) (tally (failed_ask c) asks) (tally_some (failed_ask c) asks k d l (failed_here c (get_or asks k d) refl e)))
-
-  pub gets_exact : (c : ℕ) → All (λ a. a.cloud ≡ c → a.answer ≢ Failed) asks → counted (failures (log ++ gets_event (map look_of asks)) c) ≡ counted (failures log c)
-  gets_exact c none = ap counted (failures_after_gets log asks c) ∙ count_stays _ _ (tally_none (failed_ask c) asks (λ k d l. none_here c (get_or asks k d) (none k d l)))
-
-  pub gets_grow : (c : ℕ) → counted (failures log c) ≤ counted (failures (log ++ gets_event (map look_of asks)) c)
-  gets_grow c = subst (λ n. counted (failures log c) ≤ counted n) (sym (failures_after_gets log asks c)) (count_grows (failures log c) (tally (failed_ask c) asks))
-
--- the counts after a round of puts
-module _ (log : List Event) (refusals : List Refusal) (n : ℕ) (jobs : List Job) where
-  pub puts_rose : All (λ j. j.done ≡ done.Failed → Rose (counted (failures log j.cloud)) (counted (failures (log ++ puts_event (steps_of refusals n jobs)) j.cloud))) (done_jobs refusals n jobs)
-  puts_rose k d l e =
-      let c : ℕ = (get_or (done_jobs refusals n jobs) k d).cloud in
-      subst (λ m. Rose (counted (failures log c)) (counted m)) (sym (failures_after_puts log refusals n jobs c))
-      (count_rose (failures log c) (tally (failed_job c) (done_jobs refusals n jobs)) (tally_some (failed_job c) (done_jobs refusals n jobs) k d l (failed_job_here c (get_or (done_jobs refusals n jobs) k d) refl e)))
-
-  pub puts_exact : (c : ℕ) → All (λ j. j.cloud ≡ c → j.done ≢ done.Failed) (done_jobs refusals n jobs) → counted (failures (log ++ puts_event (steps_of refusals n jobs)) c) ≡ counted (failures log c)
-  puts_exact c none = ap counted (failures_after_puts log refusals n jobs c) ∙ count_stays _ _ (tally_none (failed_job c) (done_jobs refusals n jobs) (λ k d l. none_job_here c (get_or (done_jobs refusals n jobs) k d) (none k d l)))
-
-  pub puts_grow : (c : ℕ) → counted (failures log c) ≤ counted (failures (log ++ puts_event (steps_of refusals n jobs)) c)
-  puts_grow c = subst (λ m. counted (failures log c) ≤ counted m) (sym (failures_after_puts log refusals n jobs c)) (count_grows (failures log c) (tally (failed_job c) (done_jobs refusals n jobs)))
+  pub counted_grows : Grows (λ c. counted (before c)) (λ c. counted (now c))
+  counted_grows c = let after : now c ≡ before c + tally (failed_on cloud has_failed c) xs = more c in omega arith
 
 -- ---- chunks that were given
 

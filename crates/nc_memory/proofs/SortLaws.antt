@@ -5,7 +5,7 @@ use Rattle.std.specs.List.{find, Contains}
 use Rattle.std.specs.Result.{IfOk}
 use Rattle.std.proofs.lemmas.List.{length-map, get_or-map}
 use Rattle.nc_cloud.specs.Cloud.{AreSorted, Lists}
-use Rattle.nc_cloud.proofs.Fans.{some_of}
+use Rattle.nc_cloud.proofs.Entries.{some_of}
 use Rattle.nc_name.specs.declared.key.Key.{Key}
 use Rattle.nc_memory.specs.declared.store.Object.{Object}
 use Rattle.nc_cloud.specs.Contents.{key_eq}

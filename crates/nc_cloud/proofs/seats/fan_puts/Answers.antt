@@ -1,26 +1,39 @@
-use Rattle.nc_cloud.proofs.FanPuts.{fan_places, fan_done, fan_puts_told, fan_puts_failed, fan_puts_exact, fan_puts_grow, fan_puts_slips, fan_puts_gets}
+use Rattle.std.proofs.Common.{refl}
+use Rattle.nc_cloud.proofs.FanPuts.{PutRound, fan_leaves, fan_places, fan_puts}
+use Rattle.nc_cloud.proofs.FanRounds.{fan_answered, fan_exact, fan_failed, fan_grows, fan_slips}
+use Rattle.nc_cloud.proofs.seats.fan_puts.Given.{Over}
 use Rattle.nc_cloud.proofs.seats.fan_puts.Goals as goal
 
+round : (g : Over) (c : goal.After-jobs-1 g) → PutRound g.C.Cloud c.args.jobs.now c.collect_puts.new.jobs c.args.seats.now c.serve_puts.new.seats
+round g c = record {
+  below = c.requires.below;
+  once = c.requires.once;
+  served = c.serve_puts.ensures;
+  answers = c.collect_puts.ensures;
+  clouds = refl;
+  ended = λ j s t done. done.ended;
+}
+
 pub returns-clause-entries : goal.returns-clause-entries
-returns-clause-entries g c = fan_places g.C.Cloud c.args.jobs.now c.collect_puts.new.jobs c.args.seats.now c.serve_puts.new.seats c.requires.below c.requires.once c.serve_puts.ensures c.collect_puts.ensures
+returns-clause-entries g c = fan_places (round g c)
 
 pub returns-clause-answered : goal.returns-clause-answered
-returns-clause-answered g c = fan_done g.C.Cloud c.args.jobs.now c.collect_puts.new.jobs c.args.seats.now c.serve_puts.new.seats c.requires.below c.requires.once c.serve_puts.ensures c.collect_puts.ensures
+returns-clause-answered g c = fan_answered (round g c)
 
 pub returns-clause-told : goal.returns-clause-told
-returns-clause-told g c = fan_puts_told g.C.Cloud c.args.jobs.now c.collect_puts.new.jobs c.args.seats.now c.serve_puts.new.seats c.requires.below c.requires.once c.serve_puts.ensures c.collect_puts.ensures
+returns-clause-told g c = fan_leaves (round g c)
 
 pub returns-clause-failed : goal.returns-clause-failed
-returns-clause-failed g c = fan_puts_failed g.C.Cloud c.args.jobs.now c.collect_puts.new.jobs c.args.seats.now c.serve_puts.new.seats c.requires.below c.requires.once c.serve_puts.ensures c.collect_puts.ensures
+returns-clause-failed g c = fan_failed (round g c)
 
 pub returns-clause-exact : goal.returns-clause-exact
-returns-clause-exact g c = fan_puts_exact g.C.Cloud c.args.jobs.now c.collect_puts.new.jobs c.args.seats.now c.serve_puts.new.seats c.requires.below c.requires.once c.serve_puts.ensures c.collect_puts.ensures
+returns-clause-exact g c = fan_exact (round g c)
 
 pub returns-clause-grows : goal.returns-clause-grows
-returns-clause-grows g c = fan_puts_grow g.C.Cloud c.args.jobs.now c.collect_puts.new.jobs c.args.seats.now c.serve_puts.new.seats c.requires.below c.requires.once c.serve_puts.ensures c.collect_puts.ensures
+returns-clause-grows g c = fan_grows (round g c)
 
 pub returns-clause-slips : goal.returns-clause-slips
-returns-clause-slips g c = fan_puts_slips g.C.Cloud c.args.jobs.now c.collect_puts.new.jobs c.args.seats.now c.serve_puts.new.seats c.requires.below c.requires.once c.serve_puts.ensures c.collect_puts.ensures
+returns-clause-slips g c = fan_slips (round g c)
 
 pub returns-clause-gets : goal.returns-clause-gets
-returns-clause-gets g c = fan_puts_gets g.C.Cloud c.args.jobs.now c.collect_puts.new.jobs c.args.seats.now c.serve_puts.new.seats c.requires.below c.requires.once c.serve_puts.ensures c.collect_puts.ensures
+returns-clause-gets g c = fan_puts (round g c)
