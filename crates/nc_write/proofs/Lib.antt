@@ -1,0 +1,9 @@
+pub mod ChunkRounds
+pub mod DoingLaws
+pub mod InTurnLaws
+pub mod MarkLaws
+pub mod PreparedLaws
+pub mod PuttingLaws
+pub mod RowLaws
+pub mod SealingLaws
+pub mod VersionRounds

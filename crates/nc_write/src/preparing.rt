@@ -1,0 +1,66 @@
+//! All writes of a put, made before the first of them.
+ghost use Rattle.std.specs.Prelude.{◌≡◌, ◌≤◌, ◌+◌, ◌*◌, ◌^◌, ℕ, List, IfOk, length};
+ghost use Rattle.nc_mix.specs.Mixing.{AreChunksOf};
+ghost use Rattle.nc_meta.specs.Parts.{IsGeneration};
+ghost use Rattle.nc_state.specs.Holding.{top_generation};
+ghost use Rattle.nc_write.specs.Putting.{IsPutOf};
+
+use crate::live::put_live;
+use crate::marks::marks_of;
+use crate::rows::{Rows, by_row};
+use crate::sealing::{VersionWrites, seal_version};
+use nc_bytes::told_bytes;
+use nc_code::Code;
+use nc_meta::Meta;
+use nc_mix::{Chunks, Open, encode};
+use nc_name::{Memory, Name};
+use nc_native::cut;
+use nc_nextloss::GoodCode;
+use std::alloc::Global;
+use std::thread::Threads;
+
+/// Combines the file by this code, and seals its chunks, beside those of the metadata before, and its metadata. All of a put's
+/// memory is taken here.
+pub fn prepare<R: Threads + Sync>(
+    rt: &R,
+    alloc: Global,
+    name: &Name,
+    top: &Option<Meta>,
+    generation: u64,
+    good: &GoodCode,
+    workers: u8,
+    bytes: &[u8],
+) -> Result<VersionWrites, Memory>
+    requires next { generation ≡ top_generation top.now + 1 }
+    requires last { IsGeneration generation }
+    requires some_workers { 1 ≤ workers }
+    requires few_workers { workers ≤ 16 }
+    requires short { length bytes.now ≤ 2 ^ 26 }
+    ensures { IfOk result (IsPutOf good.now.code.width name.now top.now good.now bytes.now) }
+{
+    told_bytes(bytes);
+    let width = good.code().width();
+    let chunks = combined(rt, alloc, good.code(), workers, bytes)?;
+    let marks = marks_of(chunks.items());
+    let live = put_live(top, generation, bytes.len() as u64, good, &marks);
+    let rows = by_row(alloc, width, chunks)?;
+    let Rows { zeros, ones } = rows;
+    let writes = seal_version(alloc, width, name, &live, zeros, ones)?;
+    Ok(writes)
+}
+
+/// Cuts the file and combines it by this code.
+fn combined<R: Threads + Sync>(
+    rt: &R,
+    alloc: Global,
+    code: &Code,
+    workers: u8,
+    bytes: &[u8],
+) -> Result<Chunks, Memory>
+    requires some_workers { 1 ≤ workers }
+    requires few_workers { workers ≤ 16 }
+    ensures { IfOk result (AreChunksOf code.now bytes.now) }
+{
+    let natives = cut(alloc, bytes, code.width())?;
+    encode(rt, alloc, &natives, code, workers, &Open)
+}
