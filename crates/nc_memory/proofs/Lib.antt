@@ -4,6 +4,7 @@ mod Numbered
 pub mod PastLaws
 mod RecordLaws
 mod Serves
+mod ShelfLaws
 mod SortLaws
 mod Stopping
 mod StoreLaws

@@ -4,5 +4,7 @@ pub mod MomentLaws
 pub mod Moments
 pub mod Record
 pub mod Rounds
+pub mod Shelf
+pub mod Sites
 pub mod Stops
 pub mod Store

@@ -9,6 +9,8 @@ mod memory;
 mod record;
 mod rounds;
 mod serving;
+mod shelf;
+mod site;
 mod stops;
 mod store;
 #[cfg(test)]

@@ -15,7 +15,7 @@ ghost use Rattle.nc_memory.specs.Stops.{cut, LeavesStopped};
 ghost use Rattle.nc_memory.specs.Memory.{chunk_gets_of, contents_of, entries_of, faults_of, gets_event, log_of, puts_event, refusals_of, width_of, Gives, ServesGets, ServesPuts, Takes, Unchanged};
 
 use crate::log::Log;
-use crate::record::{Event, LookList, Refusal, StepList, Torn, gifts_in, object_in};
+use crate::record::{Event, LookList, Refusal, StepList, Torn, gifts_in};
 use crate::rounds::{count_entries, count_rounds, entries_at, find_round};
 use crate::serving::{answer_all, looks_of, mark, plan_puts, starve_asks, starve_jobs};
 use crate::stops::{copied_refusals, cut_log, push_refusal};
@@ -23,8 +23,8 @@ use nc_cloud::{Ask, Fleet, Job};
 use nc_name::{Blob, Key, Memory};
 use std::alloc::Global;
 
-/// Clouds in memory, which fail where they were told to. It keeps the record of all its rounds and nothing else
-/// of them: what its clouds hold and how often they failed follows from the record.
+/// Clouds in memory, which fail where they were told to. What its clouds hold and how often they failed follows from
+/// the record of all its rounds.
 #[derive(Drop)]
 pub struct MemFleet {
     alloc: Global,
@@ -35,18 +35,18 @@ pub struct MemFleet {
 }
 
 /// Records the gets of a round, where there are any.
-fn record_gets(log: &mut Log, looks: LookList) -> Result<(), Memory>
+fn record_gets(alloc: Global, log: &mut Log, looks: LookList) -> Result<(), Memory>
     ensures ok { OnOk result (log.new.events.items ≡ log.old.events.items ++ gets_event looks) }
     ensures err { OnErr result (log.new.events.items ≡ log.old.events.items) }
 {
     if looks.items().is_empty() {
         return Ok(());
     }
-    log.push(Event::Gets(looks))
+    log.push(alloc, Event::Gets(looks))
 }
 
 /// Records the puts of a round, where there are any.
-fn record_puts(log: &mut Log, steps: StepList) -> Result<(), Memory>
+fn record_puts(alloc: Global, log: &mut Log, steps: StepList) -> Result<(), Memory>
     requires { WholeSteps steps }
     ensures ok { OnOk result (log.new.events.items ≡ log.old.events.items ++ puts_event steps) }
     ensures err { OnErr result (log.new.events.items ≡ log.old.events.items) }
@@ -54,7 +54,7 @@ fn record_puts(log: &mut Log, steps: StepList) -> Result<(), Memory>
     if steps.items().is_empty() {
         return Ok(());
     }
-    log.push(Event::Puts(steps))
+    log.push(alloc, Event::Puts(steps))
 }
 
 impl MemFleet {
@@ -94,7 +94,7 @@ impl MemFleet {
     pub fn object(&self, cloud: u8, key: &Key) -> Option<&[u8]>
         ensures { option_map (λ bytes. bytes.now) result ≡ contents_of self.now cloud key.now }
     {
-        object_in(&self.log.events, cloud, key)
+        self.log.object(cloud, key)
     }
 
     /// How many gets of chunks of a cloud have given bytes.
@@ -162,11 +162,12 @@ impl MemFleet {
         ensures width { width_of self.new ≡ width_of self.old }
     {
         let bytes = Blob::from_slice(self.alloc, bytes)?;
-        self.log.push(Event::Planted {
+        let event = Event::Planted {
             cloud,
             key: *key,
             bytes,
-        })?;
+        };
+        self.log.push(self.alloc, event)?;
         Ok(())
     }
 
@@ -176,10 +177,9 @@ impl MemFleet {
         ensures ok { OnOk result (Gives self.old self.new asks.old asks.new) }
         ensures err { OnErr result (Unchanged self.old self.new) }
     {
-        let log = &self.log;
-        answer_all(self.alloc, &log.events, &self.refusals, self.entries, asks)?;
+        answer_all(self.alloc, &self.log, &self.refusals, self.entries, asks)?;
         let looks = looks_of(self.alloc, asks)?;
-        record_gets(&mut self.log, looks)?;
+        record_gets(self.alloc, &mut self.log, looks)?;
         self.entries = self.entries.saturating_add(asks.len() as u64);
         Ok(())
     }
@@ -191,7 +191,7 @@ impl MemFleet {
         ensures err { OnErr result ((jobs.new ≡ jobs.old) × Unchanged self.old self.new) }
     {
         let steps = plan_puts(self.alloc, &self.refusals, self.entries, jobs)?;
-        record_puts(&mut self.log, steps)?;
+        record_puts(self.alloc, &mut self.log, steps)?;
         mark(&self.refusals, self.entries, jobs);
         self.entries = self.entries.saturating_add(jobs.len() as u64);
         Ok(())

@@ -58,14 +58,14 @@ pub enum Event {
 }
 
 /// The step of a cloud.
-pub(crate) fn step_of(steps: &StepList, cloud: u8) -> Option<&Step>
+pub(crate) fn step_of(steps: &[Step], cloud: u8) -> Option<&Step>
     ensures { option_copied result ≡ step_at steps.now cloud }
 {
-    steps.items().iter().find(|s| s.cloud == cloud)
+    steps.iter().find(|s| s.cloud == cloud)
 }
 
 /// What an object is after a put, where it was `old` before.
-fn object_left<'a>(step: &'a Step, old: Option<&'a [u8]>) -> Option<&'a [u8]>
+pub(crate) fn object_left<'a>(step: &'a Step, old: Option<&'a [u8]>) -> Option<&'a [u8]>
     ensures { option_map (λ r. r.now) result ≡ left step.now.fate step.now.bytes (option_map (λ r. r.now) old.entry) }
 {
     let bytes = step.bytes.bytes();
@@ -89,7 +89,7 @@ fn object_after<'a>(
 {
     match event {
         Event::Gets(_) => old,
-        Event::Puts(steps) => match step_of(steps, cloud) {
+        Event::Puts(steps) => match step_of(steps.items(), cloud) {
             Some(step) if step.key.is_same(key) => object_left(step, old),
             _ => old,
         },

@@ -2,24 +2,20 @@ ghost use Rattle.std.specs.Prelude.{◌≡◌, map, IfOk, OnOk, option_map};
 ghost use Rattle.nc_cloud.specs.Fleet.{asked};
 ghost use Rattle.nc_memory.specs.Record.{answer_of, answered_asks, done_jobs, done_of, step_by, look_of, starved_ask, starved_job, steps_of, value};
 
-use crate::record::{Event, Look, LookList, Refusal, Step, StepList, Torn, object_in, refusal_of};
+use crate::log::Log;
+use crate::record::{Look, LookList, Refusal, Step, StepList, Torn, refusal_of};
 use nc_cloud::{Answer, Ask, Done, Job};
 use nc_name::{Blob, Key, Memory};
 use std::alloc::Global;
 
 /// The answer to a get, with a copy of the bytes.
-fn answer_to(
-    alloc: Global,
-    log: &[Event],
-    refused: Option<Torn>,
-    ask: &Ask,
-) -> Result<Answer, Memory>
-    ensures { IfOk result (λ a. a ≡ answer_of refused ask.now.most (value log.now ask.now.cloud ask.now.key None)) }
+fn answer_to(alloc: Global, log: &Log, refused: Option<Torn>, ask: &Ask) -> Result<Answer, Memory>
+    ensures { IfOk result (λ a. a ≡ answer_of refused ask.now.most (value log.now.events.items ask.now.cloud ask.now.key None)) }
 {
     if refused.is_some() {
         return Ok(Answer::Failed);
     }
-    match object_in(log, ask.cloud, &ask.key) {
+    match log.object(ask.cloud, &ask.key) {
         None => Ok(Answer::Absent),
         Some(bytes) if bytes.len() as u64 <= ask.most => {
             Ok(Answer::Bytes(Blob::from_slice(alloc, bytes)?))
@@ -31,13 +27,13 @@ fn answer_to(
 /// Answers each ask by its number.
 pub(crate) fn answer_all(
     alloc: Global,
-    log: &[Event],
+    log: &Log,
     refusals: &[Refusal],
     entries: u64,
     asks: &mut [Ask],
 ) -> Result<(), Memory>
     ensures asked { map asked asks.new ≡ map asked asks.old }
-    ensures ok { OnOk result (asks.new ≡ answered_asks refusals.now entries log.now asks.old) }
+    ensures ok { OnOk result (asks.new ≡ answered_asks refusals.now entries log.now.events.items asks.old) }
 {
     for i in 0..asks.len() {
         asks[i].answer = answer_to(alloc, log, refusal_of(refusals, entries, i), &asks[i])?;

@@ -4,6 +4,7 @@ ghost use Rattle.nc_memory.specs.Stops.{cut, stopped_event, stopped_step};
 
 use crate::log::{Log, push_event};
 use crate::record::{Event, Look, LookList, Refusal, Step, StepList, Torn};
+use crate::shelf::shelf_of;
 use nc_name::{Blob, Memory};
 use std::alloc::Global;
 
@@ -103,7 +104,8 @@ pub(crate) fn cut_log(alloc: Global, log: &Log, at: usize, fates: &[Torn]) -> Re
     ensures { IfOk result (λ short. short.events.items ≡ cut at fates.now log.now.events.items) }
 {
     let events = cut_events(alloc, &log.events, at, fates)?;
-    Ok(Log { events })
+    let shelf = shelf_of(alloc, &events);
+    Ok(Log { events, shelf })
 }
 
 pub(crate) fn push_refusal(refusals: &mut Vec<Refusal>, refusal: Refusal) -> Result<(), Memory>

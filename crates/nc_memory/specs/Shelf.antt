@@ -1,0 +1,20 @@
+-- The objects of all clouds under their sites.
+use Rattle.std.specs.Prelude.{ℕ, ◌&&◌, Option, List, nat_eq, if◌then◌else◌}
+use Rattle.std.specs.BTreeMap.{BTreeMap, get}
+use Rattle.nc_cloud.specs.Contents.{Contents, key_eq}
+use Rattle.nc_memory.specs.declared.record.Step.{Step}
+use Rattle.nc_memory.specs.declared.site.Site.{Site}
+use Rattle.nc_memory.specs.Record.{step_at, step_value}
+use Rattle.nc_memory.specs.Sites.{site_cmp}
+
+-- what a shelf says that each cloud holds
+abbrev pub shelved : BTreeMap Site (List ℕ) → Contents
+shelved shelf c key = get site_cmp shelf (record { cloud = c; key = key })
+
+-- contents with one object changed
+abbrev pub set_at : Site → Option (List ℕ) → Contents → Contents
+set_at site new F c key = if nat_eq site.cloud c && key_eq site.key key then new else F c key
+
+-- contents after the puts of a round
+abbrev pub after_steps : List Step → Contents → Contents
+after_steps steps F c key = step_value (step_at steps c) key (F c key)
