@@ -1,9 +1,9 @@
 -- Rounds with entries of some clouds, where f tells what each cloud's entry is.
-use Rattle.std.proofs.Common.{◌≡◌, ◌≢◌, ◌<◌, ◌≤◌, ◌+◌, ◌⊎◌, ℕ, zero, suc, Option, None, Some, List, [], ◌∷◌, ◌++◌, option_to_list, map, length, get_or, All, AllPairs, nat_eq, if◌then◌else◌, refl, sym, ap, ◌∙◌, subst, arith, inl, inr}
+use Rattle.std.proofs.Common.{◌≡◌, ◌≢◌, ◌<◌, ◌≤◌, ◌+◌, ◌⊎◌, ℕ, zero, suc, Option, None, Some, List, [], ◌∷◌, ◌++◌, option_to_list, map, length, get_or, All, AllPairs, Contains, nat_eq, if◌then◌else◌, refl, sym, ap, ◌∙◌, subst, arith, inl, inr}
 use Rattle.std.proofs.lemmas.Bool.{cases_eq, cases_lt}
 use Rattle.std.proofs.lemmas.Bool.Decides.{eqb_tells}
-use Rattle.std.proofs.lemmas.List.{length-map, get_or-map}
-use Rattle.std.proofs.lemmas.List.Elements.{All-cons, All-nil}
+use Rattle.std.proofs.lemmas.List.{length-map, get_or-map, get_or_default}
+use Rattle.std.proofs.lemmas.List.Elements.{All-cons, Contains-append_left, Contains-append_right}
 use Rattle.nc_cloud.specs.Contents.{Contents, Write}
 use Rattle.nc_cloud.specs.Images.{write_at, ImageCloud, Image, WrittenCloud, Written}
 use Rattle.nc_cloud.specs.Rounds.{row, some_row}
@@ -89,6 +89,25 @@ module _ {X : Type 0} (cloud : X → ℕ) (f : ℕ → Option X) (is : (c : ℕ)
   between a zero = record { from = λ i d l. absurd (omega arith); below = λ i d l. absurd (omega arith); rising = λ i j d l m. absurd (omega arith) }
   between a (suc k) = between_step a k (f a) (some_row f (suc a) k) refl (between (suc a) k)
 
+  are_step : (a : ℕ) (o : Option X) (xs : List X) → f a ≡ o → All (λ x. f (cloud x) ≡ Some x) xs → All (λ x. f (cloud x) ≡ Some x) (option_to_list o ++ xs)
+  are_step a None xs e rest = rest
+  are_step a (Some x) xs e rest = All-cons (λ y. f (cloud y) ≡ Some y) x xs (ap f (is a x e) ∙ e) rest
+
+  -- each is the entry of its cloud
+  some_are : (a k : ℕ) → All (λ x. f (cloud x) ≡ Some x) (some_row f a k)
+  some_are a zero = λ i d l. absurd (omega arith)
+  some_are a (suc k) = are_step a (f a) (some_row f (suc a) k) refl (some_are (suc a) k)
+
+  -- and each cloud's entry is there
+  some_has : (a k c : ℕ) (x : X) → a ≤ c → c < a + k → f c ≡ Some x → Contains (some_row f a k) x
+  some_has a zero c x low high e = absurd (omega arith)
+  some_has a (suc k) c x low high e =
+      elim (cases_eq a c) [
+        | inl same ↦
+            subst (λ (o : Option X). Contains (option_to_list o ++ some_row f (suc a) k) x) (sym (ap f same ∙ e)) (Contains-append_left (x ∷ []) (some_row f (suc a) k) x (0, omega arith, refl))
+        | inr differs ↦ Contains-append_right (option_to_list (f a)) (some_row f (suc a) k) x (some_has (suc a) k c x (omega arith) (omega arith) e)
+      ]
+
   -- they ascend
   pub some_ascend : (n : ℕ) → AreAscending cloud n (some_row f 0 n)
   some_ascend n =
@@ -98,6 +117,25 @@ module _ {X : Type 0} (cloud : X → ℕ) (f : ℕ → Option X) (is : (c : ℕ)
   -- and entries that p sees as they are do too
   pub ascend_some : {A : Type 0} (p : A → X) (n : ℕ) (xs : List A) → map p xs ≡ some_row f 0 n → AreAscending (λ a. cloud (p a)) n xs
   ascend_some p n xs all = ascend_map p cloud n xs (some_row f 0 n) all (some_ascend n)
+
+-- entries that p sees as those of some clouds
+module _ {X : Type 0} (cloud : X → ℕ) (f : ℕ → Option X) (is : (c : ℕ) (x : X) → f c ≡ Some x → cloud x ≡ c) {A : Type 0} (p : A → X) (n : ℕ) (xs : List A) (all : map p xs ≡ some_row f 0 n) where
+  seen_as : (i : ℕ) (d e : A) → i < length xs → p (get_or xs i d) ≡ get_or (some_row f 0 n) i (p e)
+  seen_as i d e l = ap p (get_or_default xs i d e l) ∙ sym (get_or-map p xs i e (p e) l) ∙ ap (λ ys. get_or ys i (p e)) all
+
+  same_length : length (some_row f 0 n) ≡ length xs
+  same_length = ap length (sym all) ∙ length-map xs p
+
+  -- each is the entry of its cloud
+  pub entry_is : All (λ a. f (cloud (p a)) ≡ Some (p a)) xs
+  entry_is i d l = subst (λ (x : X). f (cloud x) ≡ Some x) (sym (seen_as i d d l)) (some_are cloud f is 0 n i (p d) (omega (arith, same_length)))
+
+  -- and each cloud's entry is there
+  pub has_entry : (c : ℕ) (x : X) → c < n → f c ≡ Some x → (i : ℕ) × (i < length xs) × ((d : A) → p (get_or xs i d) ≡ x)
+  has_entry c x l e =
+      let there = some_has cloud f is 0 n c x (omega arith) (omega arith) e in
+      let within : there.0 < length xs = let low : there.0 < length (some_row f 0 n) = there.1 in omega (arith, same_length) in
+      (there.0, within, λ d. seen_as there.0 d d within ∙ get_or_default (some_row f 0 n) there.0 (p d) x there.1 ∙ there.2)
 
 -- writes of some clouds
 module _ (f : ℕ → Option Write) (is : (c : ℕ) (p : Write) → f c ≡ Some p → p.cloud ≡ c) where

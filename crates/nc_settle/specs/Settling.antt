@@ -5,10 +5,14 @@ use Rattle.nc_meta.specs.Metas.{generation_of}
 use Rattle.nc_cloud.specs.Contents.{Contents, Write}
 use Rattle.nc_cloud.specs.Rounds.{some_row}
 use Rattle.nc_cloud.specs.Deciding.{IsFirstToRise}
+use Rattle.nc_cloud.specs.Stopping.{Keeps}
+use Rattle.nc_cloud.specs.declared.fleet.Fleet.{Ghosts as FleetGhosts}
 use Rattle.nc_state.specs.Clouds.{Clouds}
 use Rattle.nc_state.specs.Holding.{IsDisputed}
 use Rattle.nc_settle.specs.declared.place.Place.{Place}
 use Rattle.nc_settle.specs.declared.place.Place.TheVariants as place
+use Rattle.nc_state.specs.Vaults.{ComesTo, ForEachVault, NothingMade}
+use Rattle.nc_settle.specs.declared.settled.Settled.{Settled}
 use Rattle.nc_settle.specs.declared.settled.SettleFault.{SettleFault}
 use Rattle.nc_settle.specs.declared.settled.SettleFault.TheVariants as fault
 use Rattle.nc_settle.specs.Views.{Places, place_at}
@@ -50,6 +54,14 @@ HasSettleCause exact before now (fault.Cloud c) = IsFirstToRise exact before now
 HasSettleCause exact before now (fault.Misplaced c a b) = exact → (c : ℕ) → now c ≡ before c
 HasSettleCause exact before now (fault.Conflict g a b) = exact → (c : ℕ) → now c ≡ before c
 HasSettleCause exact before now fault.Memory = Unit {0}
+
+-- whatever the clouds stood for, at each stop and at the end they stand for it with nothing made
+abbrev pub SettleBegins : {A : Type 0} → FleetGhosts A → List ℕ → A → A → Type 0
+SettleBegins F name old new = ForEachVault (F.clouds old) (F.held old) (λ V. Keeps F old new (NothingMade (F.clouds old) name V))
+
+-- and then the name is at rest at the version of this meta
+abbrev pub SettleComes : {A : Type 0} → FleetGhosts A → List ℕ → A → A → Settled → Type 0
+SettleComes F name old new s = ForEachVault (F.clouds old) (F.held old) (λ V. ComesTo (F.clouds old) name V (F.held new) s.top)
 
 -- ---- which clouds are written to
 

@@ -9,10 +9,12 @@ mod metas;
 mod place;
 mod settled;
 mod settling;
+#[cfg(test)]
+mod tests;
 mod view;
 
 pub use deciding::{Conflict, Misplaced, Top};
-pub use looking::look;
+pub use looking::{look, look_without};
 pub use metas::meta_jobs;
 pub use place::Place;
 pub use settled::{SettleFault, Settled};

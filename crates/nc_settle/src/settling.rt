@@ -5,9 +5,9 @@ ghost use Rattle.nc_cloud.specs.Deciding.{TellsCounts};
 ghost use Rattle.nc_cloud.specs.Images.{Image, Written};
 ghost use Rattle.nc_cloud.specs.Stopping.{GoesOn, Keeps};
 ghost use Rattle.nc_state.specs.Holding.{IsSettledOn, IsTopOrNone, Undisputed};
-ghost use Rattle.nc_state.specs.Vaults.{ChangesOnlyName, ComesTo, ForEachVault, NothingMade};
+ghost use Rattle.nc_state.specs.Vaults.{ChangesOnlyName};
 ghost use Rattle.nc_settle.specs.Elsewhere.{NothingMisplaced};
-ghost use Rattle.nc_settle.specs.Settling.{lacking_writes, lacks, AreLacking, HasSettleCause, IsSeenFault, SeesFault, SeesOne, SettleRefuses};
+ghost use Rattle.nc_settle.specs.Settling.{lacking_writes, lacks, AreLacking, HasSettleCause, IsSeenFault, SeesFault, SeesOne, SettleBegins, SettleComes, SettleRefuses};
 ghost use Rattle.nc_settle.specs.Views.{width_of};
 
 use crate::looking::look;
@@ -35,8 +35,8 @@ pub fn settle<F: Fleet>(alloc: Global, fleet: &mut F, name: &Name) -> Result<Set
     ensures nothing_misplaced { F.tells → OnOk result (NothingMisplaced (F.clouds fleet.old) name.now (F.held fleet.old)) }
     ensures settled { F.tells → IfOk result (λ s. IsSettledOn (F.clouds fleet.old) (F.held fleet.new) name.now s.top) }
     ensures fits { IfOk result (λ s. IfSome s.top (IsMeta (F.clouds fleet.old))) }
-    ensures begins { F.tells → ForEachVault (F.clouds fleet.old) (F.held fleet.old) (λ V. Keeps F.Fleet fleet.old fleet.new (NothingMade (F.clouds fleet.old) name.now V)) }
-    ensures comes { F.tells → IfOk result (λ s. ForEachVault (F.clouds fleet.old) (F.held fleet.old) (λ V. ComesTo (F.clouds fleet.old) name.now V (F.held fleet.new) s.top)) }
+    ensures begins { F.tells → SettleBegins F.Fleet name.now fleet.old fleet.new }
+    ensures comes { F.tells → IfOk result (SettleComes F.Fleet name.now fleet.old fleet.new) }
     ensures alone { F.tells → Keeps F.Fleet fleet.old fleet.new (ChangesOnlyName name.now (F.held fleet.old)) }
     ensures cause { IfErr result (HasSettleCause F.counts_exactly (F.faults fleet.old) (F.faults fleet.new)) }
     ensures clean { F.counts_exactly → OnOk result ((c : ℕ) → F.faults fleet.new c ≡ F.faults fleet.old c) }

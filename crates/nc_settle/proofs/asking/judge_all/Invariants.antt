@@ -1,5 +1,5 @@
 use Rattle.nc_settle.specs.Rounds.{AreJudged}
 use Rattle.nc_settle.proofs.asking.judge_all.Given as goal
 
-abbrev pub invariant-loop-ask : goal.invariant-loop-ask
-invariant-loop-ask l = AreJudged l.width l.name l.slot l.ask-index l.asks l.places.items
+abbrev pub invariant-loop-cloud : goal.invariant-loop-cloud
+invariant-loop-cloud l = AreJudged l.width l.name l.slot l.cloud l.asks l.places.items

@@ -1,7 +1,7 @@
+use Rattle.std.proofs.lemmas.Result.{IfOk-weaker}
+use Rattle.nc_settle.specs.Views.{Places}
+use Rattle.nc_settle.proofs.Looks.{all_rose}
 use Rattle.nc_settle.proofs.looking.look.Goals as goal
 
-pub ask_all-requires-clause-asks : goal.ask_all-requires-clause-asks
-ask_all-requires-clause-asks g c = rw (c.deref_mut.ensures.value, ← c.width-width.ensures) c.in_ok-zeros.ensures
-
-pub ask_all-requires-2-clause-asks : goal.ask_all-requires-2-clause-asks
-ask_all-requires-2-clause-asks g c = rw (c.deref_mut-2.ensures.value, c.ask_all.ensures.looked.clouds, ← c.width-width.ensures) c.in_ok-ones.ensures
+pub returns-clause-failed : goal.returns-clause-failed
+returns-clause-failed g c = IfOk-weaker _ _ _ (λ (v : Places) others. all_rose _ _ _ v others) c.look_without.ensures.failed
