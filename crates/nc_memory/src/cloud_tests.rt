@@ -17,7 +17,7 @@ fn meta(name: Name) -> Key
     Key::Meta { name, slot: 0 }
 }
 
-fn chunk(name: Name, row: u8) -> Key
+pub(crate) fn chunk(name: Name, row: u8) -> Key
     requires { row < 2 }
     ensures { Slots result }
 {

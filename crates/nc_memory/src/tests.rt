@@ -1,7 +1,8 @@
-ghost use Rattle.std.specs.Prelude.{◌≡◌, ◌<◌, ◌≤◌};
+ghost use Rattle.std.specs.Prelude.{◌≡◌, ◌<◌};
 ghost use Rattle.nc_name.specs.Keys.{Slots};
 ghost use Rattle.nc_memory.specs.Memory.{width_of};
 
+use crate::cloud_tests::chunk;
 use crate::memory::MemFleet;
 use crate::record::Torn;
 use nc_cloud::{Answer, Ask, Done, Fleet, Job};
@@ -9,16 +10,6 @@ use nc_frame::seal;
 use nc_name::{Blob, Key, Memory, Name};
 use std::alloc::Global;
 use std::test::Fail;
-
-fn chunk(name: Name) -> Key
-    ensures { Slots result }
-{
-    Key::Chunk {
-        name,
-        slot: 0,
-        row: 0,
-    }
-}
 
 /// Puts a frame of this payload on a cloud, in a round of its own.
 fn put(
@@ -73,6 +64,17 @@ fn len_of(fleet: &MemFleet, cloud: u8, key: &Key) -> Option<usize> {
     }
 }
 
+/// How long an object of 58 bytes is after a put of 59 that left it so.
+fn lens_left() -> [(Torn, Option<usize>); 4] {
+    [
+        (Torn::Old, Some(58)),
+        (Torn::New, Some(59)),
+        (Torn::Gone, None),
+        // 59 bytes without the last
+        (Torn::Broken, Some(58)),
+    ]
+}
+
 /// What cloud 1 of 4 holds after a put of 58 bytes, and one of 59 that was told to fail so.
 fn len_after(alloc: Global, key: &Key, outcome: Torn) -> Result<Option<usize>, Memory>
     requires slots { Slots key.now }
@@ -86,7 +88,7 @@ fn len_after(alloc: Global, key: &Key, outcome: Torn) -> Result<Option<usize>, M
 
 #[test]
 fn a_put_is_read_back(rt: HostRuntime) -> Result<(), Fail> {
-    let key = chunk(Name::read("a")?);
+    let key = chunk(Name::read("a")?, 0);
     let mut fleet = MemFleet::new(rt.alloc(), 4)?;
     assert_eq!(rt; put(rt.alloc(), &mut fleet, 1, &key, &[4, 4])?, Done::Ok);
     assert!(rt; gave(&get(&mut fleet, 1, &key, 58), 58));
@@ -97,15 +99,8 @@ fn a_put_is_read_back(rt: HostRuntime) -> Result<(), Fail> {
 
 #[test]
 fn a_refused_put_leaves_what_was_told(rt: HostRuntime) -> Result<(), Fail> {
-    let key = chunk(Name::read("a")?);
-    let cases = [
-        (Torn::Old, Some(58)),
-        (Torn::New, Some(59)),
-        (Torn::Gone, None),
-        // 59 bytes without the last
-        (Torn::Broken, Some(58)),
-    ];
-    for (outcome, left) in cases {
+    let key = chunk(Name::read("a")?, 0);
+    for (outcome, left) in lens_left() {
         assert_eq!(rt; len_after(rt.alloc(), &key, outcome)?, left);
     }
     Ok(())
@@ -113,7 +108,7 @@ fn a_refused_put_leaves_what_was_told(rt: HostRuntime) -> Result<(), Fail> {
 
 #[test]
 fn a_refused_get_fails_and_the_next_gives(rt: HostRuntime) -> Result<(), Fail> {
-    let key = chunk(Name::read("a")?);
+    let key = chunk(Name::read("a")?, 0);
     let mut fleet = MemFleet::new(rt.alloc(), 4)?;
     fleet.refuse(2, Torn::Old)?;
     fleet.refuse(2, Torn::Gone)?;
@@ -140,14 +135,8 @@ fn len_stopped(alloc: Global, key: &Key, fate: Torn) -> Result<Option<usize>, Me
 
 #[test]
 fn a_stopped_put_leaves_its_fate_and_none_comes_after_it(rt: HostRuntime) -> Result<(), Fail> {
-    let key = chunk(Name::read("a")?);
-    let cases = [
-        (Torn::Old, Some(58)),
-        (Torn::New, Some(59)),
-        (Torn::Gone, None),
-        (Torn::Broken, Some(58)),
-    ];
-    for (fate, left) in cases {
+    let key = chunk(Name::read("a")?, 0);
+    for (fate, left) in lens_left() {
         assert_eq!(rt; len_stopped(rt.alloc(), &key, fate)?, left);
     }
     Ok(())
