@@ -83,7 +83,18 @@ show 0 "put of no bytes" "$scratch/empty" put empty
 plainly empty "$scratch/empty"
 show 0 "get of them" "$scratch/empty" get empty
 same "$scratch/empty"
-show 20 "put under the same name: it is taken" "$big" put empty
+echo "generation 2" >"$scratch/said"
+show 0 "put under the same name: a new version" "$big" put empty
+same "$scratch/said"
+show 0 "get of it: the new version" "$scratch/empty" get empty
+same "$big"
+rm "$scratch"/cloud2/*
+echo "generation 3" >"$scratch/said"
+show 0 "put of a third version, after a cloud lost all its objects" bench/demo.sh put empty
+same "$scratch/said"
+rm "$scratch"/cloud1/* "$scratch"/cloud3/*
+show 0 "get of it after two other clouds lost theirs: the one that was lost before has it whole" "$scratch/empty" get empty
+same bench/demo.sh
 printf x >"$scratch/byte"
 show 0 "put of a byte" "$scratch/byte" put byte
 output=/dev/full show 9 "get of it to a full device: the output failed" "$scratch/empty" get byte
@@ -102,6 +113,7 @@ show 2 "an unknown word: no command" "$scratch/empty" stow empty
 show 2 "put of an empty name: no name" "$scratch/empty" put ""
 show 2 "put of a name with a line feed: no name" "$scratch/empty" put $'a\nb'
 show 2 "put of a name of 101 letters: no name" "$scratch/empty" put "$(printf 'a%.0s' {1..101})"
+rm "$scratch"/cloud?/m-656d707479-0
 cp "$scratch"/cloud2/m-656d707479-1 "$scratch"/cloud1/m-656d707479-0
 rm "$scratch"/cloud?/m-656d707479-1
 show 11 "get where the only metadata is that of another cloud" "$scratch/empty" get empty

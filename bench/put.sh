@@ -30,8 +30,8 @@ commands = {}
 for width in (4, 10):
     clouds = ",".join(folders[width])
     for what, given in (("", file), (" of a byte", byte)):
-        for command in ("put", "get"):
-            commands[f"{command}{what}, {width} clouds"] = ([program, clouds, command, os.path.basename(given)], given)
+        for title, command in (("put", "put"), ("put over it", "put"), ("get", "get")):
+            commands[f"{title}{what}, {width} clouds"] = ([program, clouds, command, os.path.basename(given)], given)
 commands["sha256sum"] = (["sha256sum"], file)
 commands["cp"] = (["cp", file, others + "/cp"], file)
 commands["cp and sync"] = (["sh", "-c", 'cp "$0" "$1" && sync "$1"', file, others + "/synced"], file)
@@ -69,5 +69,5 @@ for word in sorted(absent):
 beside = min(seconds["sha256sum"])
 for name in commands:
     least = min(seconds[name])
-    print(f"{name:26} {least * 1000:8.1f} ms   {least / beside:6.2f} x sha256sum   peak {peaks[name] / 1024:5.0f} MiB")
+    print(f"{name:32} {least * 1000:8.1f} ms   {least / beside:6.2f} x sha256sum   peak {peaks[name] / 1024:5.0f} MiB")
 PYTHON

@@ -1,9 +1,5 @@
-pub mod SealingLemmas
-pub mod StoreLaws
-pub mod MetaLemmas
-pub mod PutLemmas
 pub mod WordLaws
 pub mod GetLaws
-pub mod SeeingLaws
-pub mod KeepingLaws
 pub mod DrawingLaws
+pub mod PutLaws
+pub mod TellLaws

@@ -14,7 +14,7 @@ fault_code (fault.Spent tried) = 6
 fault_code (fault.Conflict g a b) = 11
 fault_code (fault.Misplaced c a b) = 11
 fault_code (fault.Unsound a b) = 11
-fault_code fault.Taken = 20
+fault_code fault.Worn = 12
 
 -- the exit code of a status
 abbrev pub exit_code : Status → ℕ

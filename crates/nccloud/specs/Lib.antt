@@ -1,13 +1,8 @@
 pub mod Codes
-pub mod Drawing
-pub mod FirstMeta
+pub mod Counting
 pub mod Got
-pub mod Marks
-pub mod Refusals
+pub mod Putting
 pub mod Run
-pub mod Seeing
 pub mod Settings
 pub mod Status
-pub mod Store
-pub mod Storing
 pub mod Words

@@ -1,5 +1,5 @@
 -- What the words of a run mean.
-use Rattle.std.specs.Prelude.{ℕ, ◌≡◌, ◌==◌, ◌⊎◌, List, [], ◌∷◌, codes}
+use Rattle.std.specs.Prelude.{ℕ, ◌≡◌, ◌==◌, ◌⊎◌, ◌++◌, List, [], ◌∷◌, codes, decimal}
 use Rattle.std.specs.List.{slice_split}
 use Rattle.nc_name.specs.Names.{IsName, RefusesName}
 use Rattle.nccloud.specs.declared.words.Command.{Command}
@@ -20,9 +20,9 @@ put_words text = codes "put" ∷ text ∷ []
 abbrev pub get_words : List ℕ → List (List ℕ)
 get_words text = codes "get" ∷ text ∷ []
 
--- what put prints
-abbrev pub put_output : List ℕ
-put_output = codes "generation 1\n"
+-- what a put of this generation prints
+abbrev pub put_output : ℕ → List ℕ
+put_output generation = codes "generation " ++ decimal generation ++ codes "\n"
 
 -- the words that ask for this
 abbrev pub command_words : Command → List (List ℕ)

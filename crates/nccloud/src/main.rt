@@ -8,15 +8,13 @@ mod edges_tests;
 mod get;
 #[cfg(test)]
 mod look_tests;
-mod marks;
-mod prepare;
 mod put;
 mod run;
 #[cfg(test)]
 mod scenes;
-mod sealing;
 mod setting;
 mod status;
+mod telling;
 mod words;
 
 use crate::edges::{after_first, ending, folders};

@@ -1,5 +1,6 @@
 //! The program without its edges.
 ghost use Rattle.std.specs.Prelude.{◌≡◌, ◌↔◌, ◌≤◌, ℕ, List, map, string_bytes, IsTrue};
+ghost use Rattle.nc_cloud.specs.Stopping.{GoesOn};
 ghost use Rattle.nc_name.specs.Names.{IsName};
 ghost use Rattle.nc_name.specs.declared.name.NameFault.{NameFault as NameCause};
 ghost use Rattle.nccloud.specs.Run.{IsWide, HasBadName, IsBegun, IsEarly, IsDone, CountsClouds, CountsStream, PutDoes, GetDoes};
@@ -7,13 +8,14 @@ ghost use Rattle.nccloud.specs.Settings.{standard, IsSetting};
 ghost use Rattle.nccloud.specs.Words.{put_words, get_words, AsksNothing, IsCommandOf, IfPut, IfGet};
 
 use crate::get::get;
-use crate::put::put;
+use crate::put::{put, told_name};
 use crate::setting::Setting;
 use crate::status::{Fault, Status};
+use crate::telling::tell_stored;
 use crate::words::{Command, WordFault, read_words};
 use nc_cloud::Fleet;
 use nc_name::Name;
-use nc_stream::{InputFault, Sink, Source, read_all, send};
+use nc_stream::{InputFault, Sink, Source, read_all};
 use std::alloc::Global;
 use std::thread::Threads;
 
@@ -49,6 +51,7 @@ pub fn run<R: Threads + Sync, F: Fleet, S: Source, K: Sink, E: Sink>(
 
     // what the counts of failures say
     ensures clouds { CountsClouds F.Fleet fleet.old fleet.new result }
+    ensures time { GoesOn F.Fleet fleet.old fleet.new }
     ensures read { CountsStream Status.ReadFault S.counts_exactly (S.faults source.old) (S.faults source.new) result }
     ensures write { CountsStream Status.WriteFault K.counts_exactly (K.faults out.old) (K.faults out.new) result }
     ensures err { err.new ≡ err.old }
@@ -92,6 +95,7 @@ fn perform<R: Threads + Sync, F: Fleet, S: Source, K: Sink>(
     ensures no_input { IfGet command.now (λ _. source.new ≡ source.old) }
     ensures quiet { (IsDone result → ⊥) → out.new ≡ out.old }
     ensures clouds { CountsClouds F.Fleet fleet.old fleet.new result }
+    ensures time { GoesOn F.Fleet fleet.old fleet.new }
     ensures read { CountsStream Status.ReadFault S.counts_exactly (S.faults source.old) (S.faults source.new) result }
     ensures write { CountsStream Status.WriteFault K.counts_exactly (K.faults out.old) (K.faults out.new) result }
 {
@@ -102,7 +106,7 @@ fn perform<R: Threads + Sync, F: Fleet, S: Source, K: Sink>(
     }
 }
 
-/// Reads the input to its end, stores it as a new file, and tells its generation.
+/// Reads the input to its end, stores it as the file of this name, and tells its generation.
 fn put_input<R: Threads + Sync, F: Fleet, S: Source, K: Sink>(
     rt: &R,
     alloc: Global,
@@ -121,12 +125,14 @@ fn put_input<R: Threads + Sync, F: Fleet, S: Source, K: Sink>(
     ensures put { PutDoes F.Fleet S.Source K.Sink setting.now name.now fleet.old fleet.new source.old source.new out.old out.new result }
     ensures quiet { (IsDone result → ⊥) → out.new ≡ out.old }
     ensures clouds { CountsClouds F.Fleet fleet.old fleet.new result }
+    ensures time { GoesOn F.Fleet fleet.old fleet.new }
     ensures read { CountsStream Status.ReadFault S.counts_exactly (S.faults source.old) (S.faults source.new) result }
     ensures write { CountsStream Status.WriteFault K.counts_exactly (K.faults out.old) (K.faults out.new) result }
 {
+    told_name(name);
     match read_all(alloc, source) {
         Ok(bytes) => match put(rt, alloc, fleet, setting, name, bytes) {
-            Ok(()) => match send(out, b"generation 1\n") {
+            Ok(generation) => match tell_stored(out, generation) {
                 Ok(()) => Status::Ok,
                 Err(_) => Status::WriteFault,
             },

@@ -1,11 +1,12 @@
 ghost use Rattle.std.specs.Prelude.{◌≡◌};
 ghost use Rattle.nccloud.specs.Codes.{exit_code, fault_code};
-ghost use Rattle.nccloud.specs.Status.{fault_of_fetch, fault_of_round};
+ghost use Rattle.nccloud.specs.Status.{fault_of_fetch, fault_of_settle, fault_of_write};
 ghost use Rattle.nccloud.specs.declared.status.Fault.TheVariants.{Memory as NoMemory};
 
-use nc_cloud::RoundFault;
 use nc_download::{FetchFault, ShortList};
 use nc_name::{Memory, NameFault};
+use nc_settle::SettleFault;
+use nc_write::WriteFault;
 use thiserror::Error;
 
 /// Why a command wasn't done on the clouds.
@@ -40,9 +41,9 @@ pub enum Fault {
         a: u8,
         b: u8,
     },
-    /// Some cloud holds metadata of this name.
-    #[error("the name is taken")]
-    Taken,
+    /// The name's generations are used up: its version is the last one.
+    #[error("the name's generations are used up")]
+    Worn,
     /// None of so many candidates for a code is good.
     #[error("none of {0} candidates for a code is good")]
     Spent(u16),
@@ -107,7 +108,7 @@ impl Fault {
             Fault::Short(_) => 5,
             Fault::Spent(_) => 6,
             Fault::Conflict { .. } | Fault::Misplaced { .. } | Fault::Unsound { .. } => 11,
-            Fault::Taken => 20,
+            Fault::Worn => 12,
         }
     }
 }
@@ -120,13 +121,35 @@ impl From<Memory> for Fault {
     }
 }
 
-impl From<RoundFault> for Fault {
-    ghost from_gives = { λ round fault. fault ≡ fault_of_round round };
+impl From<SettleFault> for Fault {
+    ghost from_gives = { λ settle fault. fault ≡ fault_of_settle settle };
 
-    fn from(fault: RoundFault) -> Fault {
+    fn from(fault: SettleFault) -> Fault {
         match fault {
-            RoundFault::Cloud(cloud) => Fault::Cloud(cloud),
-            RoundFault::Memory => Fault::Memory,
+            SettleFault::Cloud(cloud) => Fault::Cloud(cloud),
+            SettleFault::Misplaced {
+                cloud,
+                said_cloud,
+                said_width,
+            } => Fault::Misplaced {
+                cloud,
+                said_cloud,
+                said_width,
+            },
+            SettleFault::Conflict { generation, a, b } => Fault::Conflict { generation, a, b },
+            SettleFault::Memory => Fault::Memory,
+        }
+    }
+}
+
+impl From<WriteFault> for Fault {
+    ghost from_gives = { λ write fault. fault ≡ fault_of_write write };
+
+    fn from(fault: WriteFault) -> Fault {
+        match fault {
+            WriteFault::Cloud(cloud) => Fault::Cloud(cloud),
+            WriteFault::Worn => Fault::Worn,
+            WriteFault::Memory => Fault::Memory,
         }
     }
 }

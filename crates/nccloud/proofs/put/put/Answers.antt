@@ -1,126 +1,85 @@
-use Rattle.std.proofs.Common.{◌∙◌, refl, sym, subst, ℕ, List}
-use Rattle.nc_bytes.specs.Bytes.{AreBytes}
-use Rattle.nc_cloud.specs.Deciding.{HasCause}
-use Rattle.nc_cloud.specs.declared.deciding.RoundFault.{RoundFault}
+use Rattle.std.proofs.Common.{◌≡◌, ◌≢◌, ◌≤◌, ◌+◌, ◌-◌, ◌^◌, ◌∙◌, ℕ, List, Err, sym, ap, subst, arith}
+use Rattle.nc_search.specs.Searches.{IsStart, NoStart}
+use Rattle.nc_search.specs.Stream.{draw_key}
+use Rattle.nc_state.specs.Holding.{top_generation}
+use Rattle.nc_state.specs.Vaults.{MayBegin, MayDo}
+use Rattle.nc_state.specs.Versions.Version.{Stored}
+use Rattle.nc_write.specs.Putting.{IsPutBy, IsStored, put_meta}
+use Rattle.nc_write.specs.declared.fault.WriteFault.TheVariants as write
 use Rattle.nccloud.specs.declared.status.Fault.{Fault}
-use Rattle.nccloud.specs.Drawing.{HasNoCode, IsFirstCode}
-use Rattle.nccloud.specs.Refusals.{IsPutFault, PutRefuses}
-use Rattle.nccloud.specs.Run.{HasFaultCause}
-use Rattle.nccloud.specs.Store.{ChangesOnlyName, Stores}
-use Rattle.nc_download.proofs.FetchLaws.{later_cause}
-use Rattle.nccloud.proofs.DrawingLaws.{not_both, width_is}
-use Rattle.nccloud.proofs.KeepingLaws.{put_is_held}
-use Rattle.nccloud.proofs.PutLemmas.{widened}
-use Rattle.nccloud.proofs.SeeingLaws.{clean, free_held, put_fault, refused_cause, refused_held}
+use Rattle.nccloud.specs.Putting.{Puts, next_key}
+use Rattle.nccloud.proofs.DrawingLaws.{width_is}
+use Rattle.nccloud.proofs.PutLaws.{puts_done, puts_failed, puts_refused, puts_spent, puts_worn}
 use Rattle.nccloud.proofs.put.put.Goals as goal
 
-pub returns-in-Err-clause-fault : goal.returns-in-Err-clause-fault
-returns-in-Err-clause-fault g c = put_fault (g.F.Fleet.clouds c.args.fleet.now) c.args.setting.now c.args.name.now _ _ c.in-Err.ensures.fault
+-- ---- the name wasn't settled
 
-pub returns-in-Err-clause-refused : goal.returns-in-Err-clause-refused
-returns-in-Err-clause-refused g c told = refused_held _ _ _ _ c.requires.wide c.requires.narrow c.in_ok-view.ensures.valid (c.in_ok-view.ensures.told told) c.in_ok-view.ensures.width _ c.in-Err.ensures.fault
-
-pub returns-in-Err-clause-cause : goal.returns-in-Err-clause-cause
-returns-in-Err-clause-cause g c = refused_cause _ _ c.in_ok-view.ensures.width _ _ _ c.in_ok-view.ensures.failed c.in_ok-view.ensures.exact _ c.in-Err.ensures.fault
-
--- ---- no code is found
-
-pub returns-in-Err-first_code-clause-fault : goal.returns-in-Err-first_code-clause-fault
-returns-in-Err-first_code-clause-fault g c =
-    let n : ℕ = g.F.Fleet.clouds c.args.fleet.now in
-    let none : HasNoCode n c.args.setting.now c.args.name.now = subst (λ k. HasNoCode k c.args.setting.now c.args.name.now) (c.width.ensures ∙ c.look.ensures.looked.clouds) c.in-Err-first_code.ensures.spent.1 in
-    subst (λ (fault : Fault). IsPutFault n c.args.setting.now c.args.name.now fault) (sym c.in-Err-first_code.ensures.spent.0) (refl, none)
-
-pub returns-in-Err-first_code-clause-refused : goal.returns-in-Err-first_code-clause-refused
-returns-in-Err-first_code-clause-refused g c told =
-    subst (λ (fault : Fault). PutRefuses (g.F.Fleet.clouds c.args.fleet.now) c.args.name.now (g.F.Fleet.held c.args.fleet.now) fault) (sym c.in-Err-first_code.ensures.spent.0)
-    (free_held _ _ _ _ c.requires.wide c.requires.narrow c.in_ok-view.ensures.valid (c.in_ok-view.ensures.told told) c.in_ok-view.ensures.width c.in-Ok.ensures.free)
-
-pub returns-in-Err-first_code-clause-cause : goal.returns-in-Err-first_code-clause-cause
-returns-in-Err-first_code-clause-cause g c =
-    subst (λ (fault : Fault). HasFaultCause g.F.Fleet.counts_exactly (g.F.Fleet.clouds c.args.fleet.now) (g.F.Fleet.faults c.args.fleet.now) (g.F.Fleet.faults c.look.new.fleet) fault) (sym c.in-Err-first_code.ensures.spent.0)
-    (clean _ _ c.in_ok-view.ensures.width _ _ _ c.in_ok-view.ensures.failed c.in_ok-view.ensures.exact c.in-Ok.ensures.free.answered)
-
--- ---- the rounds
-
-pub write_all-requires-clause-prepared : goal.write_all-requires-clause-prepared
-write_all-requires-clause-prepared g c = record {
-  good = c.in-Ok-first_code.good;
-  name = c.args.name.now;
-  file = c.args.bytes;
-  made = widened _ _ _ _ _ _ _ _ (width_is _ _ _ _ c.in-Ok-first_code.ensures.found ∙ c.width.ensures) c.in_ok-first.ensures;
+pub returns-in-Err : goal.returns-in-Err
+returns-in-Err g c = record {
+  puts = subst (λ (f : Fault). Puts g.F.Fleet c.args.setting.now c.args.name.now c.args.bytes c.args.fleet.now c.settle.new.fleet (Err f)) (sym c.from.ensures)
+      (puts_refused g.F.Fleet c.args.setting.now c.args.name.now c.args.bytes c.settle.ensures.begins c.settle.ensures.alone c.settle.ensures.clouds c.settle.ensures.grows c.settle.ensures.time
+      c.told_name.ensures c.in-Err.fault c.in-Err.ensures.refused c.in-Err.ensures.kept c.in-Err.ensures.cause);
 }
 
--- the name was free
-pub returns-in-Ok-write_all-clause-free : goal.returns-in-Ok-write_all-clause-free
-returns-in-Ok-write_all-clause-free g c told = free_held _ _ _ _ c.requires.wide c.requires.narrow c.in_ok-view.ensures.valid (c.in_ok-view.ensures.told told) c.in_ok-view.ensures.width c.in-Ok.ensures.free
+-- ---- no generation is left, or no code is found
 
-pub returns-in-Ok-write_all-clause-kept : goal.returns-in-Ok-write_all-clause-kept
-returns-in-Ok-write_all-clause-kept g c told taken =
-    absurd (taken (free_held _ _ _ _ c.requires.wide c.requires.narrow c.in_ok-view.ensures.valid (c.in_ok-view.ensures.told told) c.in_ok-view.ensures.width c.in-Ok.ensures.free))
+pub returns-in_default : goal.returns-in_default
+returns-in_default g c = record {
+  puts = puts_worn g.F.Fleet c.args.setting.now c.args.name.now c.args.bytes c.settle.ensures.begins c.settle.ensures.alone c.settle.ensures.clouds c.settle.ensures.grows c.settle.ensures.time
+      c.in-Ok.before.top c.in-Ok.ensures.top c.in-Ok.ensures.comes c.in-Ok.ensures.clean c.in-Ok.ensures.fits (subst (λ (g : ℕ). 2 ^ 64 - 2 ≤ g) c.generation.ensures c.in_default.ensures.worn);
+}
 
-pub returns-in-Err-Cloud-clause-kept : goal.returns-in-Err-Cloud-clause-kept
-returns-in-Err-Cloud-clause-kept g c told taken =
-    absurd (taken (free_held _ _ _ _ c.requires.wide c.requires.narrow c.in_ok-view.ensures.valid (c.in_ok-view.ensures.told told) c.in_ok-view.ensures.width c.in-Ok.ensures.free))
-
-pub returns-clause-kept : goal.returns-clause-kept
-returns-clause-kept g c told taken =
-    absurd (taken (free_held _ _ _ _ c.requires.wide c.requires.narrow c.in_ok-view.ensures.valid (c.in_ok-view.ensures.told told) c.in_ok-view.ensures.width c.in-Ok.ensures.free))
-
--- and a code was found
-pub returns-in-Ok-write_all-clause-spent : goal.returns-in-Ok-write_all-clause-spent
-returns-in-Ok-write_all-clause-spent g c none =
-    absurd (not_both _ _ _ _ (subst (λ k. IsFirstCode k c.args.setting.now c.args.name.now c.in-Ok-first_code.good) (c.width.ensures ∙ c.look.ensures.looked.clouds) c.in-Ok-first_code.ensures.found) none)
-
-pub returns-in-Err-Cloud-clause-spent : goal.returns-in-Err-Cloud-clause-spent
-returns-in-Err-Cloud-clause-spent g c none =
-    absurd (not_both _ _ _ _ (subst (λ k. IsFirstCode k c.args.setting.now c.args.name.now c.in-Ok-first_code.good) (c.width.ensures ∙ c.look.ensures.looked.clouds) c.in-Ok-first_code.ensures.found) none)
-
-pub returns-clause-spent : goal.returns-clause-spent
-returns-clause-spent g c none =
-    absurd (not_both _ _ _ _ (subst (λ k. IsFirstCode k c.args.setting.now c.args.name.now c.in-Ok-first_code.good) (c.width.ensures ∙ c.look.ensures.looked.clouds) c.in-Ok-first_code.ensures.found) none)
-
--- what is held after the look is what was held
-pub returns-in-Err-Cloud-clause-only : goal.returns-in-Err-Cloud-clause-only
-returns-in-Err-Cloud-clause-only g c told =
-    subst (λ F. ChangesOnlyName c.args.name.now F (g.F.Fleet.held c.write_all.new.fleet)) c.look.ensures.looked.held
-    (c.write_all.ensures.only told _ _ _ (widened _ _ _ _ _ _ _ _ (width_is _ _ _ _ c.in-Ok-first_code.ensures.found ∙ c.width.ensures) c.in_ok-first.ensures))
-
-pub returns-in-Ok-write_all-clause-only : goal.returns-in-Ok-write_all-clause-only
-returns-in-Ok-write_all-clause-only g c told =
-    subst (λ F. ChangesOnlyName c.args.name.now F (g.F.Fleet.held c.write_all.new.fleet)) c.look.ensures.looked.held
-    (c.write_all.ensures.only told _ _ _ (widened _ _ _ _ _ _ _ _ (width_is _ _ _ _ c.in-Ok-first_code.ensures.found ∙ c.width.ensures) c.in_ok-first.ensures))
-
-pub returns-clause-only : goal.returns-clause-only
-returns-clause-only g c told =
-    subst (λ F. ChangesOnlyName c.args.name.now F (g.F.Fleet.held c.write_all.new.fleet)) c.look.ensures.looked.held
-    (c.write_all.ensures.only told _ _ _ (widened _ _ _ _ _ _ _ _ (width_is _ _ _ _ c.in-Ok-first_code.ensures.found ∙ c.width.ensures) c.in_ok-first.ensures))
-
--- the look has changed no count, since no place failed
-pub returns-in-Err-Cloud-clause-cause : goal.returns-in-Err-Cloud-clause-cause
-returns-in-Err-Cloud-clause-cause g c =
-    later_cause (g.F.Fleet.clouds c.args.fleet.now) g.F.Fleet.counts_exactly (g.F.Fleet.faults c.args.fleet.now) (g.F.Fleet.faults c.look.new.fleet) (g.F.Fleet.faults c.write_all.new.fleet) c.in-Err-Cloud.cloud
-    c.look.ensures.looked.grows (clean _ _ c.in_ok-view.ensures.width _ _ _ c.in_ok-view.ensures.failed c.in_ok-view.ensures.exact c.in-Ok.ensures.free.answered)
-    (subst (λ (fault : RoundFault). HasCause g.F.Fleet.counts_exactly (g.F.Fleet.faults c.look.new.fleet) (g.F.Fleet.faults c.write_all.new.fleet) fault) c.in-Err-Cloud.field-0-is c.in-Err-Cloud.ensures.cause)
-
-pub returns-in-Ok-write_all-clause-clean : goal.returns-in-Ok-write_all-clause-clean
-returns-in-Ok-write_all-clause-clean g c told k l =
-    c.in-Ok-write_all.ensures.clean told k
-    ∙ clean _ _ c.in_ok-view.ensures.width _ _ _ c.in_ok-view.ensures.failed c.in_ok-view.ensures.exact c.in-Ok.ensures.free.answered told k l
-
-pub returns-in-Ok-write_all-clause-stored : goal.returns-in-Ok-write_all-clause-stored
-returns-in-Ok-write_all-clause-stored g c told =
-    let n : ℕ = g.F.Fleet.clouds c.args.fleet.now in
-    let good = c.in-Ok-first_code.good in
-    let drawn : IsFirstCode n c.args.setting.now c.args.name.now good = subst (λ k. IsFirstCode k c.args.setting.now c.args.name.now good) (c.width.ensures ∙ c.look.ensures.looked.clouds) c.in-Ok-first_code.ensures.found in
-    let stores : Stores n good c.args.name.now c.args.bytes (g.F.Fleet.held c.args.fleet.now) (g.F.Fleet.held c.write_all.new.fleet) =
-    subst (λ k. Stores k good c.args.name.now c.args.bytes (g.F.Fleet.held c.args.fleet.now) (g.F.Fleet.held c.write_all.new.fleet)) c.look.ensures.looked.clouds
-    (subst (λ F. Stores (g.F.Fleet.clouds c.look.new.fleet) good c.args.name.now c.args.bytes F (g.F.Fleet.held c.write_all.new.fleet)) c.look.ensures.looked.held
-    (c.in-Ok-write_all.ensures.stored told _ _ _ (widened _ _ _ _ _ _ _ _ (width_is _ _ _ _ c.in-Ok-first_code.ensures.found ∙ c.width.ensures) c.in_ok-first.ensures))) in
+pub returns-in-Err-draw : goal.returns-in-Err-draw
+returns-in-Err-draw g c =
+    let next : c.in-Some.generation ≡ top_generation c.in-Ok.before.top + 1 = c.in-Some.ensures.next.0 ∙ ap (λ (k : ℕ). k + 1) c.generation.ensures in
+    let last : c.in-Some.generation ≤ 2 ^ 64 - 2 = c.in-Some.ensures.next.1.1 in
+    let wide = c.width.ensures ∙ c.settle.ensures.clouds in
     record {
-      good = good;
-      drawn = drawn;
-      repairable = c.in-Ok-first_code.ensures.good;
-      stores = stores;
-      holds = put_is_held n good _ _ _ _ c.requires.wide c.requires.narrow c.look.ensures.valid c.in-Ok-first_code.ensures.good (subst (λ (b : List ℕ). AreBytes b) c.bytes-2.ensures c.told_bytes.ensures) stores (returns-in-Ok-write_all-clause-free g c told);
+      puts = puts_spent g.F.Fleet c.args.setting.now c.args.name.now c.args.bytes c.settle.ensures.begins c.settle.ensures.alone c.settle.ensures.clouds c.settle.ensures.grows c.settle.ensures.time
+          c.in-Ok.before.top c.in-Ok.ensures.top c.in-Ok.ensures.comes c.in-Ok.ensures.clean c.in-Err-draw.tried (omega (arith, next, last)) c.in-Err-draw.ensures.spent.0
+          (subst (λ (k : ℕ). NoStart k (next_key c.args.setting.now c.args.name.now c.in-Ok.before.top) c.args.setting.now.budget) wide
+          (subst (λ (h : ℕ). NoStart c.width.result (draw_key c.args.setting.now.seed c.args.name.now h) c.args.setting.now.budget) next c.in-Err-draw.ensures.spent.1));
+    }
+
+-- ---- the writes
+
+pub put-requires-clause-width : goal.put-requires-clause-width
+put-requires-clause-width g c _ _ = width_is _ _ _ _ _ c.in-Ok-draw.ensures.found.1 ∙ c.width.ensures
+
+pub returns-in-Ok-put : goal.returns-in-Ok-put
+returns-in-Ok-put g c =
+    let next : c.in-Some.generation ≡ top_generation c.in-Ok.before.top + 1 = c.in-Some.ensures.next.0 ∙ ap (λ (k : ℕ). k + 1) c.generation.ensures in
+    let wide = c.width.ensures ∙ c.settle.ensures.clouds in
+    let name : List ℕ = c.args.name.now in
+    let drawn = subst (λ (k : ℕ). IsStart k (next_key c.args.setting.now name c.in-Ok.before.top) c.args.setting.now.budget c.in-Ok-draw.ensures.found.0 c.in-Ok-draw.good) wide
+    (subst (λ (h : ℕ). IsStart c.width.result (draw_key c.args.setting.now.seed name h) c.args.setting.now.budget c.in-Ok-draw.ensures.found.0 c.in-Ok-draw.good) next c.in-Ok-draw.ensures.found.1) in
+    record {
+      puts = puts_done g.F.Fleet c.args.setting.now name c.args.bytes c.settle.ensures.begins c.settle.ensures.alone c.settle.ensures.clouds c.settle.ensures.grows c.settle.ensures.time
+          c.in-Ok.before.top c.in-Ok.ensures.top c.in-Ok.ensures.comes c.in-Ok.ensures.clean c.in-Ok-draw.ensures.found.0 c.in-Ok-draw.good drawn
+          (λ told. subst (λ (b : List ℕ). MayBegin g.F.Fleet (g.F.Fleet.clouds c.args.fleet.now) name c.in-Ok.before.top (IsPutBy (g.F.Fleet.clouds c.args.fleet.now) c.in-Ok-draw.good b) c.settle.new.fleet c.put.new.fleet) c.bytes-2.ensures
+          (subst (λ (k : ℕ). MayBegin g.F.Fleet k name c.in-Ok.before.top (IsPutBy k c.in-Ok-draw.good c.bytes-2.result.now) c.settle.new.fleet c.put.new.fleet) c.settle.ensures.clouds (c.put.ensures.begins told)))
+          c.put.ensures.alone c.put.ensures.clouds c.put.ensures.grows c.put.ensures.time c.in-Ok-put.field-0.top
+          (λ told. subst (λ (b : List ℕ). MayDo (g.F.Fleet.clouds c.args.fleet.now) name c.in-Ok.before.top (IsPutBy (g.F.Fleet.clouds c.args.fleet.now) c.in-Ok-draw.good b) (g.F.Fleet.held c.settle.new.fleet) (g.F.Fleet.held c.put.new.fleet) c.in-Ok-put.field-0.top) c.bytes-2.ensures
+          (subst (λ (k : ℕ). MayDo k name c.in-Ok.before.top (IsPutBy k c.in-Ok-draw.good c.bytes-2.result.now) (g.F.Fleet.held c.settle.new.fleet) (g.F.Fleet.held c.put.new.fleet) c.in-Ok-put.field-0.top) c.settle.ensures.clouds (c.in-Ok-put.ensures.does told)))
+          (λ told. subst (λ (b : List ℕ). IsStored (g.F.Fleet.clouds c.args.fleet.now) (g.F.Fleet.held c.put.new.fleet) name (Stored (put_meta (g.F.Fleet.clouds c.args.fleet.now) c.in-Ok.before.top c.in-Ok-draw.good b) b)) c.bytes-2.ensures
+          (subst (λ (k : ℕ). IsStored k (g.F.Fleet.held c.put.new.fleet) name (Stored (put_meta k c.in-Ok.before.top c.in-Ok-draw.good c.bytes-2.result.now) c.bytes-2.result.now)) c.settle.ensures.clouds (c.in-Ok-put.ensures.stored told)))
+          c.in-Ok-put.ensures.clean c.in-Ok.ensures.undisputed c.in-Ok.ensures.nothing_misplaced c.in-Some.generation next;
+    }
+
+pub returns : goal.returns
+returns g c =
+    let next : c.in-Some.generation ≡ top_generation c.in-Ok.before.top + 1 = c.in-Some.ensures.next.0 ∙ ap (λ (k : ℕ). k + 1) c.generation.ensures in
+    let last : c.in-Some.generation ≤ 2 ^ 64 - 2 = c.in-Some.ensures.next.1.1 in
+    let wide = c.width.ensures ∙ c.settle.ensures.clouds in
+    let name : List ℕ = c.args.name.now in
+    let drawn = subst (λ (k : ℕ). IsStart k (next_key c.args.setting.now name c.in-Ok.before.top) c.args.setting.now.budget c.in-Ok-draw.ensures.found.0 c.in-Ok-draw.good) wide
+    (subst (λ (h : ℕ). IsStart c.width.result (draw_key c.args.setting.now.seed name h) c.args.setting.now.budget c.in-Ok-draw.ensures.found.0 c.in-Ok-draw.good) next c.in-Ok-draw.ensures.found.1) in
+    let fine : c.in-Err-put.fault ≢ write.Worn = λ is. let worn : top_generation c.in-Ok.before.top ≡ 2 ^ 64 - 2 = c.in-Err-put.ensures.not_worn (ap Err is) in absurd (omega (arith, next, last, worn)) in
+    record {
+      puts = subst (λ (f : Fault). Puts g.F.Fleet c.args.setting.now name c.args.bytes c.args.fleet.now c.put.new.fleet (Err f)) (sym c.from-in-Err-put.ensures)
+          (puts_failed g.F.Fleet c.args.setting.now name c.args.bytes c.settle.ensures.begins c.settle.ensures.alone c.settle.ensures.clouds c.settle.ensures.grows c.settle.ensures.time
+          c.in-Ok.before.top c.in-Ok.ensures.top c.in-Ok.ensures.comes c.in-Ok.ensures.clean c.in-Ok-draw.ensures.found.0 c.in-Ok-draw.good drawn
+          (λ told. subst (λ (b : List ℕ). MayBegin g.F.Fleet (g.F.Fleet.clouds c.args.fleet.now) name c.in-Ok.before.top (IsPutBy (g.F.Fleet.clouds c.args.fleet.now) c.in-Ok-draw.good b) c.settle.new.fleet c.put.new.fleet) c.bytes-2.ensures
+          (subst (λ (k : ℕ). MayBegin g.F.Fleet k name c.in-Ok.before.top (IsPutBy k c.in-Ok-draw.good c.bytes-2.result.now) c.settle.new.fleet c.put.new.fleet) c.settle.ensures.clouds (c.put.ensures.begins told)))
+          c.put.ensures.alone c.put.ensures.clouds c.put.ensures.grows c.put.ensures.time c.in-Err-put.fault fine c.in-Err-put.ensures.cause);
     }
