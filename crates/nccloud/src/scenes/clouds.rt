@@ -1,6 +1,5 @@
 //! The clouds of a scene: what they hold, and how they change by themselves.
 
-use crate::scenes::script::{Change, Plant};
 use nc_cloud::Fleet;
 use nc_frame::seal;
 use nc_memory::MemFleet;
@@ -8,13 +7,13 @@ use nc_name::{Key, Name, read_key};
 use std::alloc::Global;
 use std::test::Fail;
 
-/// The names of all files in scenes.
-static NAMES: [&str; 4] = ["a", "b", "p", "Z"];
+/// No cloud.
+pub const NONE: u8 = 255;
 
-/// Each key of these names.
+/// Each key of the names of all files in scenes.
 pub fn keys(alloc: Global) -> Result<Vec<Key>, Fail> {
     let mut keys = Vec::new(alloc);
-    for text in &NAMES {
+    for text in ["a", "b", "p", "Z"] {
         let name = Name::read(text)?;
         for slot in 0..2u8 {
             keys.push(Key::Meta { name, slot })?;
@@ -34,10 +33,7 @@ pub fn width_of(fleet: &MemFleet) -> u8 {
 /// The object of a cloud under the key of this text.
 pub fn object<'a>(fleet: &'a MemFleet, cloud: u8, text: &str) -> Result<&'a [u8], Fail> {
     let key = read_key(text).ok_or("no key")?;
-    match fleet.object(cloud, &key) {
-        Some(bytes) => Ok(bytes),
-        None => Err(Fail::new(format_args!("no {text} on cloud {cloud}"))),
-    }
+    Ok(fleet.object(cloud, &key).ok_or("no object")?)
 }
 
 /// How many objects there are.
@@ -65,125 +61,74 @@ pub fn are_same(a: &MemFleet, b: &MemFleet, keys: &[Key]) -> bool {
     true
 }
 
-fn place(fleet: &mut MemFleet, cloud: u8, key: &Key, bytes: &[u8]) -> Result<(), Fail> {
+/// Places an object.
+pub fn place(fleet: &mut MemFleet, cloud: u8, key: &Key, bytes: &[u8]) -> Result<(), Fail> {
     if usize::from(cloud) < fleet.width() {
         Ok(fleet.plant(cloud, key, bytes)?)
     } else {
-        Err(Fail::new(format_args!("no cloud {cloud}")))
+        Err(Fail::new("no such cloud"))
     }
 }
 
-/// Places the frame of a payload on a cloud, made for a cloud and a width.
-fn place_frame(
+/// Places the frame of a payload on a cloud, made for a cloud of so many.
+pub fn place_frame(
     alloc: Global,
     fleet: &mut MemFleet,
     cloud: u8,
-    said: [u8; 2],
+    said: (u8, u8),
     text: &str,
     payload: &[u8],
 ) -> Result<(), Fail> {
     let key = read_key(text).ok_or("no key")?;
-    let frame = seal(alloc, said[0], said[1], &key, payload)?;
+    let frame = seal(alloc, said.0, said.1, &key, payload)?;
     place(fleet, cloud, &key, frame.bytes())
 }
 
-/// Places an object.
-pub fn plant(alloc: Global, fleet: &mut MemFleet, what: &Plant) -> Result<(), Fail> {
-    let width = width_of(fleet);
-    match what {
-        Plant::Raw(cloud, text, bytes) => {
-            let key = read_key(text).ok_or("no key")?;
-            place(fleet, *cloud, &key, bytes.all(alloc)?.as_slice())
-        }
-        Plant::Sealed(cloud, text, payload) => {
-            let payload = payload.all(alloc)?;
-            place_frame(
-                alloc,
-                fleet,
-                *cloud,
-                [*cloud, width],
-                text,
-                payload.as_slice(),
-            )
-        }
-        Plant::SealedFor(cloud, said, text, payload) => {
-            let payload = payload.all(alloc)?;
-            place_frame(alloc, fleet, *cloud, *said, text, payload.as_slice())
-        }
-        Plant::Everywhere(text, payload) => {
-            place_frames(alloc, fleet, text, payload.all(alloc)?.as_slice())
-        }
-        Plant::Payloads(text, payloads) => {
-            let mut cloud = 0_u8;
-            for payload in *payloads {
-                place_frame(alloc, fleet, cloud, [cloud, width], text, payload)?;
-                cloud = cloud.saturating_add(1);
-            }
-            Ok(())
-        }
+/// The numbers of all clouds.
+pub fn all_clouds(alloc: Global, fleet: &MemFleet) -> Result<Vec<u8>, Fail> {
+    let mut clouds = Vec::new(alloc);
+    for cloud in 0..width_of(fleet) {
+        clouds.push(cloud)?;
     }
+    Ok(clouds)
 }
 
-fn place_frames(
-    alloc: Global,
-    fleet: &mut MemFleet,
-    text: &str,
-    payload: &[u8],
-) -> Result<(), Fail> {
-    let width = width_of(fleet);
-    for cloud in 0..width {
-        place_frame(alloc, fleet, cloud, [cloud, width], text, payload)?;
-    }
-    Ok(())
-}
-
-/// These clouds after a change. None of them has been asked yet.
-pub fn changed(
+/// Clouds of which each holds what the cloud of its number here holds, and nothing for NONE. None of them has been asked yet.
+pub fn arranged(
     alloc: Global,
     fleet: &MemFleet,
     keys: &[Key],
-    change: &Change,
+    order: &[u8],
 ) -> Result<MemFleet, Fail> {
-    let width = width_of(fleet);
     let mut new = MemFleet::new(alloc, fleet.width())?;
-    for cloud in 0..width {
-        for key in keys {
-            if let Some(from) = source_of(change, cloud, key, width) {
-                if let Some(bytes) = fleet.object(from, key) {
-                    place(&mut new, cloud, key, kept(change, cloud, key, bytes))?;
-                }
-            }
-        }
+    for (cloud, from) in (0_u8..255).zip(order) {
+        fill(&mut new, cloud, fleet, *from, keys, None)?;
     }
     Ok(new)
 }
 
-/// The cloud whose object a cloud holds under a key after a change, if any.
-fn source_of(change: &Change, cloud: u8, key: &Key, width: u8) -> Option<u8> {
-    match change {
-        Change::Lose(lost) if cloud == *lost => None,
-        Change::LoseObject(lost, text) if cloud == *lost && is_of(key, text) => None,
-        Change::Copy(from, to, text) if cloud == *to && is_of(key, text) => Some(*from),
-        Change::Rotate if cloud.saturating_add(1) < width => Some(cloud.saturating_add(1)),
-        Change::Rotate => Some(0),
-        _ => Some(cloud),
-    }
-}
-
-/// What is kept of an object of a cloud after a change.
-fn kept<'a>(change: &Change, cloud: u8, key: &Key, bytes: &'a [u8]) -> &'a [u8] {
-    match change {
-        Change::Cut(there, text) if cloud == *there && is_of(key, text) => {
-            let (front, _) = bytes.split_at(bytes.len().saturating_sub(1));
-            front
+/// Places all objects of a cloud of another fleet on a cloud, but for that under this key.
+pub fn fill(
+    new: &mut MemFleet,
+    cloud: u8,
+    fleet: &MemFleet,
+    from: u8,
+    keys: &[Key],
+    but: Option<&Key>,
+) -> Result<(), Fail> {
+    for key in keys {
+        if let Some(bytes) = fleet.object(from, key) {
+            if !is_that(but, key) {
+                place(new, cloud, key, bytes)?;
+            }
         }
-        _ => bytes,
     }
+    Ok(())
 }
 
-fn is_of(key: &Key, text: &str) -> bool {
-    match read_key(text) {
-        Some(other) => key.is_same(&other),
+fn is_that(one: Option<&Key>, key: &Key) -> bool {
+    match one {
+        Some(one) => one.is_same(key),
         None => false,
     }
 }

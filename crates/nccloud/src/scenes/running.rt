@@ -3,7 +3,6 @@ ghost use Rattle.std.specs.Prelude.{◌≤◌, ◌^◌, length};
 
 use crate::put::put;
 use crate::run::run;
-use crate::scenes::script::Next;
 use crate::setting::Setting;
 use crate::status::{Fault, Status};
 use nc_cloud::Fleet;
@@ -17,14 +16,15 @@ use std::thread::Threads;
 /// More bytes than a scene has.
 const MANY: usize = 134_217_728;
 
-/// How a run is made, beside its words.
+/// How a run is made, beside its words. A read gives at most so many bytes, and a write takes at most so many; reads and
+/// writes are numbered from 1 on, and no 0th one fails.
 #[derive(Drop)]
 pub struct Setup {
-    input: Vec<u8>,
-    reads_up_to: usize,
-    failing_read: Option<u64>,
-    writes_up_to: usize,
-    failing_write: Option<u64>,
+    pub input: Vec<u8>,
+    pub reads_up_to: usize,
+    pub failing_read: u64,
+    pub writes_up_to: usize,
+    pub failing_write: u64,
 }
 
 /// How a run ended: the exit code and the status, its output, and the input as the run left it.
@@ -36,50 +36,27 @@ pub struct Outcome {
 }
 
 impl Setup {
-    /// No input, and nothing that fails.
-    pub fn new(alloc: Global) -> Setup {
+    /// This input, all bytes in one call, and nothing that fails.
+    pub fn new(input: Vec<u8>) -> Setup {
         Setup {
-            input: Vec::new(alloc),
+            input,
             reads_up_to: MANY,
-            failing_read: None,
+            failing_read: 0,
             writes_up_to: MANY,
-            failing_write: None,
+            failing_write: 0,
         }
-    }
-
-    /// This input, and nothing that fails.
-    pub fn with_input(alloc: Global, bytes: &[u8]) -> Result<Setup, Fail> {
-        let mut setup = Setup::new(alloc);
-        setup.input.extend_from_slice(bytes)?;
-        Ok(setup)
-    }
-
-    /// Sets one thing.
-    pub fn set(&mut self, alloc: Global, next: &Next) -> Result<(), Fail> {
-        match next {
-            Next::Input(bytes) => self.input = bytes.all(alloc)?,
-            Next::ReadsUpTo(most) => self.reads_up_to = *most,
-            Next::ReadFails(nth) => self.failing_read = Some(*nth),
-            Next::WritesUpTo(most) => self.writes_up_to = *most,
-            Next::WriteFails(nth) => self.failing_write = Some(*nth),
-        }
-        Ok(())
     }
 
     fn source(&self, alloc: Global) -> Result<MemSource, Fail> {
         let bytes = Blob::from_slice(alloc, self.input.as_slice())?;
         let mut source = MemSource::new(alloc, bytes, self.reads_up_to.max(1));
-        if let Some(nth) = self.failing_read {
-            source.refuse(nth)?;
-        }
+        source.refuse(self.failing_read)?;
         Ok(source)
     }
 
     fn sink(&self, alloc: Global) -> Result<MemSink, Fail> {
         let mut sink = MemSink::new(alloc, self.writes_up_to.max(1));
-        if let Some(nth) = self.failing_write {
-            sink.refuse(nth)?;
-        }
+        sink.refuse(self.failing_write)?;
         Ok(sink)
     }
 
@@ -169,15 +146,23 @@ fn put_status<R: Threads + Sync + AllocGlobal, F: Fleet>(
     }
 }
 
-/// The words, split at single spaces. The empty text has none.
+/// The words, split at single spaces, with a line feed for each mark of a line's end. The empty text has none.
 fn split(alloc: Global, words: &str) -> Result<Vec<String>, Fail> {
     let mut all = Vec::new(alloc);
     if !words.is_empty() {
         for word in words.split(' ') {
-            all.push(String::from_str(alloc, word)?)?;
+            all.push(spelled(alloc, word)?)?;
         }
     }
     Ok(all)
+}
+
+fn spelled(alloc: Global, word: &str) -> Result<String, Fail> {
+    let mut text = String::new(alloc);
+    for letter in word.chars() {
+        text.push(if letter == '¶' { '\n' } else { letter })?;
+    }
+    Ok(text)
 }
 
 /// The exit code and the status; of a status Short the clouds that it lists, each with its cause.

@@ -1,95 +1,64 @@
 //! Puts of a name that is taken.
 
 use crate::scenes::player::play;
-use crate::scenes::script::{Plant, Scene, Stands, Step};
-use crate::scenes::shared::{GET, GONE_2, INPUT, LIVE_1, LIVE_2, NOTHING, STORED, STRIPED};
 use std::test::Fail;
-
-const TAKEN: Step = Step::Run("put a", "20 Vault(Taken)", NOTHING);
-
-static SCENES: [Scene; 6] = [
-    Scene {
-        name: "a second put changes nothing",
-        clouds: 4,
-        begin: STORED,
-        steps: &[
-            INPUT,
-            TAKEN,
-            Step::Stands(Stands::Unchanged),
-            Step::Stands(Stands::Objects(12)),
-            GET,
-        ],
-    },
-    Scene {
-        name: "metadata on one cloud takes the name",
-        clouds: 4,
-        begin: &[
-            Step::Plant(Plant::Sealed(0, "m-61-1", LIVE_1)),
-            Step::Plant(Plant::Sealed(1, "m-62-1", LIVE_1)),
-            Step::Plant(Plant::Sealed(2, "m-70-1", LIVE_1)),
-            Step::Plant(Plant::Sealed(3, "m-5a-1", LIVE_1)),
-        ],
-        steps: &[
-            INPUT,
-            TAKEN,
-            INPUT,
-            Step::Run("put b", "20 Vault(Taken)", NOTHING),
-            INPUT,
-            Step::Run("put p", "20 Vault(Taken)", NOTHING),
-            INPUT,
-            Step::Run("put Z", "20 Vault(Taken)", NOTHING),
-            Step::Stands(Stands::Objects(4)),
-        ],
-    },
-    Scene {
-        name: "a file without witnesses takes its name",
-        clouds: 4,
-        begin: STRIPED,
-        steps: &[
-            Step::Plant(Plant::Everywhere("m-61-1", LIVE_1)),
-            INPUT,
-            TAKEN,
-            Step::Stands(Stands::Unchanged),
-        ],
-    },
-    Scene {
-        name: "a file of an even generation takes its name",
-        clouds: 4,
-        begin: STRIPED,
-        steps: &[
-            Step::Plant(Plant::Everywhere("m-61-0", LIVE_2)),
-            INPUT,
-            TAKEN,
-            Step::Stands(Stands::Unchanged),
-        ],
-    },
-    Scene {
-        name: "a deleted file takes its name",
-        clouds: 4,
-        begin: &[Step::Plant(Plant::Sealed(1, "m-61-0", GONE_2))],
-        steps: &[INPUT, TAKEN, Step::Stands(Stands::Unchanged)],
-    },
-    Scene {
-        // the first candidate of this name at four clouds isn't good, and the second is: by bench/plain.py
-        name: "a put ends where no candidate is good, but that the name is taken is told first",
-        clouds: 4,
-        begin: &[
-            INPUT,
-            Step::PutWithin(1, "p", "6 Vault(Spent(1))"),
-            Step::Stands(Stands::Objects(0)),
-        ],
-        steps: &[
-            INPUT,
-            Step::PutWithin(64, "p", "0 Ok"),
-            Step::Stands(Stands::Objects(12)),
-            INPUT,
-            Step::PutWithin(1, "p", "20 Vault(Taken)"),
-            Step::Stands(Stands::Unchanged),
-        ],
-    },
-];
 
 #[test]
 fn taken_scenes(rt: HostRuntime) -> Result<(), Fail> {
-    play(&rt, &SCENES)
+    play(
+        &rt,
+        r#"
+        # a second put changes nothing
+        clouds 4
+        put a < "abcdefgh" -> 0 Ok = generation:1
+        put a < "abc" -> 20 Vault(Taken)
+        unchanged
+        objects 12
+        get a -> 0 Ok = "abcdefgh"
+
+        # metadata on one cloud takes the name
+        clouds 4
+        seal 0 m-61-1 live:1
+        seal 1 m-62-1 live:1
+        seal 2 m-70-1 live:1
+        seal 3 m-5a-1 live:1
+        put a < "abc" -> 20 Vault(Taken)
+        put b < "abc" -> 20 Vault(Taken)
+        put p < "abc" -> 20 Vault(Taken)
+        put Z < "abc" -> 20 Vault(Taken)
+        objects 4
+
+        # a file without witnesses takes its name
+        clouds 4
+        seal each c-61-0-0 "ab" "ef" 0404 abae
+        seal each c-61-0-1 "cd" "gh" 040c adb4
+        seal all m-61-1 live:1
+        put a < "abc" -> 20 Vault(Taken)
+        unchanged
+
+        # a file of an even generation takes its name
+        clouds 4
+        seal each c-61-0-0 "ab" "ef" 0404 abae
+        seal each c-61-0-1 "cd" "gh" 040c adb4
+        seal all m-61-0 live:2
+        put a < "abc" -> 20 Vault(Taken)
+        unchanged
+
+        # a deleted file takes its name
+        clouds 4
+        seal 1 m-61-0 gone:2
+        put a < "abc" -> 20 Vault(Taken)
+        unchanged
+
+        # a put ends where no candidate is good, but that the name is taken is told first; the first candidate of this name at
+        # four clouds isn't good, and the second is, by bench/plain.py
+        clouds 4
+        within 1: put p < "abc" -> 6 Vault(Spent(1))
+        objects 0
+        within 64: put p < "abc" -> 0 Ok
+        objects 12
+        within 1: put p < "abc" -> 20 Vault(Taken)
+        unchanged
+        "#,
+    )
 }
