@@ -1,7 +1,7 @@
 ghost use Rattle.nc_name.specs.Keys.{Slots};
 
 use crate::folder::FolderCloud;
-use nc_cloud::{Cloud, CloudError, Fanned, Fleet, Got};
+use nc_cloud::{Cloud, CloudError, Got};
 use nc_frame::seal;
 use nc_name::{Blob, Key, Name};
 use std::alloc::Global;
@@ -104,24 +104,14 @@ fn what_is_no_plain_file_is_listed_and_fails(rt: HostRuntime) -> Result<(), Fail
 }
 
 #[test]
-fn a_missing_folder_fails(rt: HostRuntime) -> Result<(), Fail> {
-    let key = meta(Name::read("a")?);
-    let mut missing = FolderCloud::open(rt, "scratch_missing")?;
-    assert_eq!(rt; failures(rt.alloc(), &mut missing, &key)?, 3);
-    assert!(rt; failed(&missing.list()));
-    let mut empty = FolderCloud::open(rt, "")?;
-    assert_eq!(rt; failures(rt.alloc(), &mut empty, &key)?, 3);
-    assert!(rt; failed(&empty.list()));
-    Ok(())
-}
-
-#[test]
-fn a_file_in_the_place_of_a_folder_fails(rt: HostRuntime) -> Result<(), Fail> {
+fn what_is_no_folder_fails(rt: HostRuntime) -> Result<(), Fail> {
     fs::write(&rt, "scratch_file", "no folder")?;
     let key = meta(Name::read("a")?);
-    let mut folder = FolderCloud::open(rt, "scratch_file")?;
-    assert_eq!(rt; failures(rt.alloc(), &mut folder, &key)?, 3);
-    assert!(rt; failed(&folder.list()));
+    for path in ["scratch_missing", "", "scratch_file"] {
+        let mut folder = FolderCloud::open(rt, path)?;
+        assert_eq!(rt; failures(rt.alloc(), &mut folder, &key)?, 3, "{path}");
+        assert!(rt; failed(&folder.list()), "{path}");
+    }
     fs::remove_file(&rt, "scratch_file")?;
     Ok(())
 }
@@ -141,15 +131,5 @@ fn a_changed_file_is_given_as_it_is(rt: HostRuntime) -> Result<(), Fail> {
     assert!(rt; matches!(folder.get(&key, 58)?, Got::Long));
     assert_eq!(rt; folder.list()?.items().len(), 1);
     fs::remove_dir_all(&rt, "scratch_changed")?;
-    Ok(())
-}
-
-#[test]
-fn folders_stand_side_by_side(rt: HostRuntime) -> Result<(), Fail> {
-    let mut folders = Vec::new(rt.alloc());
-    folders.push(FolderCloud::open(rt, "scratch_a")?)?;
-    folders.push(FolderCloud::open(rt, "scratch_b")?)?;
-    let fleet = Fanned::new(rt, rt.alloc(), folders)?;
-    assert_eq!(rt; fleet.width(), 2);
     Ok(())
 }
