@@ -23,7 +23,7 @@ fn main_joins_these_parts(rt: HostRuntime) -> Result<(), Fail> {
         (Status::Ok, 0),
         (Status::Usage, 2),
         (Status::WriteFault, 9),
-        (Status::Vault(Fault::Taken), 20),
+        (Status::Vault(Fault::Worn), 12),
     ] {
         assert!(rt; ending(&status) == ExitCode::from(code), "{code}");
     }

@@ -22,17 +22,21 @@ fn clouds_of(rt: HostRuntime, list: Option<&str>) -> Result<Vec<FolderCloud>, Fa
     Ok(folders(rt, words.as_slice())?)
 }
 
-/// A run of these words, with 300,000 bytes of input, ends so.
+/// A run of these words ends so. The input stands after the words, where there is some.
 fn check_run<R: Threads + Sync + AllocGlobal, F: Fleet>(
     rt: &R,
     fleet: &mut F,
-    words: &str,
+    run: &str,
     end: &str,
 ) -> Result<(), Fail>
     requires ready { F.ready }
 {
     let alloc = rt.alloc();
-    let setup = Setup::new(piece_bytes(alloc, "mixed:300000")?);
+    let (words, input) = match run.split_once(" < ") {
+        Some(parts) => parts,
+        None => (run, "zeros:0"),
+    };
+    let setup = Setup::new(piece_bytes(alloc, input)?);
     let outcome = setup.run(rt, fleet, words)?;
     check_end(alloc, &outcome, &end_of(end))
 }
@@ -48,16 +52,27 @@ fn make_folders(rt: &HostRuntime) -> Result<(), Fail> {
     Ok(())
 }
 
-/// What is done at this path: a file is written or removed, or a folder made or removed with all that stands in it.
+/// What is done at this path: a file is written or removed, or a folder made or removed with all that stands in it. Or what
+/// must stand there: something or nothing.
 fn perform(rt: &HostRuntime, act: &str, path: &str) -> Result<(), Fail> {
     match act {
         "write" => fs::write(rt, path, "NCF1")?,
         "remove" => fs::remove_file(rt, path)?,
         "make" => fs::create_dir(rt, path)?,
         "raze" => fs::remove_dir_all(rt, path)?,
+        "has" => check_stands(rt, path, true)?,
+        "lacks" => check_stands(rt, path, false)?,
         _ => return Err(Fail::new("no such act")),
     }
     Ok(())
+}
+
+fn check_stands(rt: &HostRuntime, path: &str, wanted: bool) -> Result<(), Fail> {
+    if fs::exists(rt, path)? == wanted {
+        Ok(())
+    } else {
+        Err(Fail::new(format_args!("what stands at {path}")))
+    }
 }
 
 #[test]
@@ -65,12 +80,29 @@ fn a_file_stands_in_folders(rt: HostRuntime) -> Result<(), Fail> {
     make_folders(&rt)?;
     let mut fleet = Fanned::new(rt, rt.alloc(), clouds_of(rt, Some(LIST))?)?;
     let scene = "
-        put a -> 0 Ok = generation:1
+        put a < mixed:300000 -> 0 Ok = generation:1
         get a -> 0 Ok = mixed:300000
         write scratch_file/0/c-61-0-0
         get a -> 0 Ok = mixed:300000
         remove scratch_file/2/c-61-0-1
         get a -> 0 Ok = mixed:300000
+        lacks scratch_file/2/m-61-0
+        put a < mixed:5 -> 0 Ok = generation:2
+        get a -> 0 Ok = mixed:5
+        has scratch_file/2/c-61-0-0
+        lacks scratch_file/2/c-61-0-1
+        has scratch_file/2/c-61-1-0
+        has scratch_file/2/c-61-1-1
+        has scratch_file/2/m-61-0
+        has scratch_file/2/m-61-1
+        make scratch_file/2/c-61-0-1
+        get a -> 0 Ok = mixed:5
+        put a < mixed:4 -> 4 Vault(Cloud(2))
+        get a -> 0 Ok = mixed:5
+        raze scratch_file/2/c-61-0-1
+        put a < mixed:4 -> 0 Ok = generation:3
+        get a -> 0 Ok = mixed:4
+        remove scratch_file/2/c-61-0-1
         make scratch_file/2/c-61-0-1
         get a -> 4 Vault(Cloud(2))
         raze scratch_file/3

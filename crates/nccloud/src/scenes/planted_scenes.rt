@@ -87,6 +87,21 @@ fn planted_scenes(rt: HostRuntime) -> Result<(), Fail> {
         seal 2 m-61-0 live:2
         seal 3 m-61-0 gone:2
         get a -> 11 Vault(Conflict { generation: 2, a: 1, b: 3 })
+        put a < "abc" -> 11 Vault(Conflict { generation: 2, a: 1, b: 3 })
+        unchanged
+
+        # metadata of another cloud beside metadata of the clouds' own is told by a put alone, and before a conflict
+        clouds 4
+        put a < "abcdefgh" -> 0 Ok = generation:1
+        copy 1 m-61-1 to 3
+        get a -> 0 Ok = "abcdefgh"
+        put a < "abc" -> 11 Vault(Misplaced { cloud: 3, said_cloud: 1, said_width: 4 })
+        unchanged
+        seal 0 m-61-0 gone:2
+        seal 2 m-61-0 live:2
+        get a -> 11 Vault(Conflict { generation: 2, a: 0, b: 2 })
+        put a < "abc" -> 11 Vault(Misplaced { cloud: 3, said_cloud: 1, said_width: 4 })
+        unchanged
 
         # metadata of another cloud alone is told
         clouds 4

@@ -31,7 +31,7 @@ fn put_scenes(rt: HostRuntime) -> Result<(), Fail> {
         objects 48
         get a -> 0 Ok = "abcdefgh"
 
-        # what is no metadata in slot 0 takes no name
+        # what is no metadata in slot 0 has no generation
         clouds 4
         raw 3 m-61-0 mixed:0
         put a < "abcdefgh" -> 0 Ok = generation:1
@@ -54,7 +54,7 @@ fn put_scenes(rt: HostRuntime) -> Result<(), Fail> {
         size 3 m-5a-1 404
         get Z -> 0 Ok = "abcdefgh"
 
-        # what is no metadata in slot 1 takes no name
+        # what is no metadata in slot 1 has no generation
         clouds 4
         raw 3 m-61-1 mixed:0
         put a < "abcdefgh" -> 0 Ok = generation:1
@@ -102,6 +102,30 @@ fn put_scenes(rt: HostRuntime) -> Result<(), Fail> {
         failing 8 2: put a < "abcdefgh" -> 4 Vault(Cloud(1)) leaving 0 0 0 0
         failing 8 9: put a < "abcdefgh" -> 4 Vault(Cloud(3)) leaving 0 0 0 0
         failing 13 12: put a < "abcdefgh" -> 4 Vault(Cloud(3)) leaving 3 4 3 4
+
+        # a failing cloud ends a put over a file too, here with cloud 1 emptied
+        clouds 4
+        put a < "abcdefgh" -> 0 Ok = generation:1
+        lose 1
+        # the rounds that look
+        failing 2: put a < "abc" -> 4 Vault(Cloud(1)) leaving 9 9 9 9
+        failing 8: put a < "abc" -> 4 Vault(Cloud(3)) leaving 9 9 9 9
+        # the metadata before, on cloud 1
+        failing 9: put a < "abc" -> 4 Vault(Cloud(1)) leaving 9 10 9 10
+        # row 0, row 1, and the new metadata
+        failing 10: put a < "abc" -> 4 Vault(Cloud(0)) leaving 13 14 13 14
+        failing 17: put a < "abc" -> 4 Vault(Cloud(3)) leaving 17 18 17 18
+        failing 18: put a < "abc" -> 4 Vault(Cloud(0)) leaving 21 22 21 22
+        failing 20: put a < "abc" -> 4 Vault(Cloud(2)) leaving 21 22 21 22
+        failing 21 20: put a < "abc" -> 4 Vault(Cloud(2)) leaving 20 22 20 22
+
+        # a failing cloud ends a third put, where all places have objects
+        clouds 4
+        put a < "abcdefgh" -> 0 Ok = generation:1
+        put a < "abc" -> 0 Ok = generation:2
+        failing 9: put a < "x" -> 4 Vault(Cloud(0)) leaving 24 24 23 24
+        failing 16: put a < "x" -> 4 Vault(Cloud(3)) leaving 24 24 23 24
+        failing 19: put a < "x" -> 4 Vault(Cloud(2)) leaving 24 24 23 24
         "#,
     )
 }

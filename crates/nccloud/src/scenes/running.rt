@@ -141,7 +141,7 @@ fn put_status<R: Threads + Sync + AllocGlobal, F: Fleet>(
     };
     let bytes = Blob::from_slice(alloc, bytes)?;
     match put(rt, alloc, fleet, &setting, name, bytes) {
-        Ok(()) => Ok(Status::Ok),
+        Ok(_) => Ok(Status::Ok),
         Err(fault) => Ok(Status::Vault(fault)),
     }
 }

@@ -8,7 +8,7 @@ fn stopped_scenes(rt: HostRuntime) -> Result<(), Fail> {
     play(
         &rt,
         r#"
-        # a put that stopped in its chunks left no file, and takes no name
+        # a put that stopped in its chunks left no file
         clouds 4
         stopped in round 2 leaving new old gone broken: put a < "abcdefgh"
         objects 2
@@ -25,8 +25,9 @@ fn stopped_scenes(rt: HostRuntime) -> Result<(), Fail> {
         stopped in round 4 leaving old broken new gone: put a < "abcdefgh"
         objects 10
         get a -> 0 Ok = "abcdefgh"
-        put a < "abc" -> 20 Vault(Taken)
-        unchanged
+        put a < "abc" -> 0 Ok = generation:2
+        objects 24
+        get a -> 0 Ok = "abc"
 
         # a put that stopped in its metadata left none where no cloud has them
         clouds 4
@@ -42,6 +43,79 @@ fn stopped_scenes(rt: HostRuntime) -> Result<(), Fail> {
         put a < "abcdefgh" -> 4 Vault(Cloud(2))
         objects 12
         get a -> 0 Ok = "abcdefgh"
+        put a < "abc" -> 0 Ok = generation:2
+        objects 24
+        get a -> 0 Ok = "abc"
+
+        # a second put that stopped in its chunks left the first file
+        clouds 4
+        put a < "old" -> 0 Ok = generation:1
+        stopped in round 3 leaving broken new gone broken: put a < "new!"
+        objects 19
+        get a -> 0 Ok = "old"
+        without two: get a -> 0 Ok = "old"
+        put a < "x" -> 0 Ok = generation:2
+        objects 24
+        get a -> 0 Ok = "x"
+        without two: get a -> 0 Ok = "x"
+
+        # a second put that stopped in its metadata left the second file where one cloud has them
+        clouds 4
+        put a < "old" -> 0 Ok = generation:1
+        stopped in round 4 leaving new old old old: put a < "new!"
+        objects 21
+        get a -> 0 Ok = "new!"
+        put a < "x" -> 0 Ok = generation:3
+        objects 24
+        get a -> 0 Ok = "x"
+
+        # a second put that stopped in its metadata left the first file where no cloud has them
+        clouds 4
+        put a < "old" -> 0 Ok = generation:1
+        stopped in round 4 leaving broken gone old broken: put a < "new!"
+        objects 22
+        get a -> 0 Ok = "old"
+        without two: get a -> 0 Ok = "old"
+        put a < "x" -> 0 Ok = generation:2
+        objects 24
+        get a -> 0 Ok = "x"
+
+        # a second put of which a cloud fails for its metadata left the second file
+        clouds 4
+        put a < "old" -> 0 Ok = generation:1
+        entry 19 fails leaving old
+        put a < "new!" -> 4 Vault(Cloud(2))
+        objects 23
+        get a -> 0 Ok = "new!"
+        put a < "x" -> 0 Ok = generation:3
+        objects 24
+        get a -> 0 Ok = "x"
+
+        # a put that stopped in writing the metadata before left the file that these are of
+        clouds 4
+        put a < "old" -> 0 Ok = generation:1
+        stopped in round 4 leaving new old old old: put a < "new!"
+        stopped in round 2 leaving broken gone new: put a < "x"
+        objects 23
+        get a -> 0 Ok = "new!"
+        put a < "x" -> 0 Ok = generation:3
+        objects 24
+        get a -> 0 Ok = "x"
+
+        # a third put that stopped spoiled the first file, and left the second
+        clouds 4
+        put a < "old" -> 0 Ok = generation:1
+        put a < "new!" -> 0 Ok = generation:2
+        stopped in round 2 leaving gone broken new old: put a < "x"
+        objects 23
+        get a -> 0 Ok = "new!"
+        stopped in round 4 leaving broken broken gone broken: put a < "x"
+        objects 23
+        get a -> 0 Ok = "new!"
+        without two: get a -> 0 Ok = "new!"
+        put a < "x" -> 0 Ok = generation:3
+        objects 24
+        get a -> 0 Ok = "x"
         "#,
     )
 }

@@ -1,4 +1,5 @@
-//! What a put stores. The payloads and the digests are of the objects that bench/plain.py makes.
+//! What a put stores. The payloads and the digests are of the objects that bench/plain.py makes; those of a second and a
+//! third version are made with its functions, by the generation and the slots of docs/FORMATS.md.
 
 use crate::scenes::player::play;
 use std::test::Fail;
@@ -26,6 +27,32 @@ fn stored_scenes(rt: HostRuntime) -> Result<(), Fail> {
         digest 1 m-61-1 fb5a7d01e10e42f4f7fa812acf4d87ae17558e7833b46c26b4237ce6ba92e3af
         digest 2 m-61-1 aa43060398d2d20e3ea7f8ab5100002074aa07afd252d31b2e34e0108ed25ac4
         digest 3 m-61-1 c7495962d1321312faf881f8c8a3ca4ad6c27ab09f8bd214f730b40e1b540834
+
+        # three bytes over these eight, of which nothing changes
+        put a < "abc" -> 0 Ok = generation:2
+        objects 24
+        payloads c-61-1-0 c8 60 98 18
+        payloads c-61-1-1 e6 de ed 83
+        digest 0 m-61-0 6d3e8c8540a0349b2fb48f5b9d790de2e51f144905e01023cea80f9079e61b19
+        digest 1 m-61-0 a6b8a691d5a7565b290dc42fed9364df34a4244934314b33bcbeb2c1fccb9491
+        digest 2 m-61-0 651b4256bf899a0f58ec2d0c9c6a8101f179bbf3065f6840b798cf8e81e59d89
+        digest 3 m-61-0 ced2a29d79ad5ebabb5d45322864252124fda92c9436aff83b51d505aba6b30b
+        payloads c-61-0-0 442a 8bdc d47e 8f39
+        payloads c-61-0-1 c758 d759 8521 a7fd
+        digest 0 m-61-1 39ecaf2cc212a022d9449e7a19480a7be9782216d661aa71bbf908ad0c116f87
+        digest 3 m-61-1 c7495962d1321312faf881f8c8a3ca4ad6c27ab09f8bd214f730b40e1b540834
+
+        # one byte over these three, in the places of the eight
+        put a < "x" -> 0 Ok = generation:3
+        objects 24
+        payloads c-61-0-0 60 c4 ff 82
+        payloads c-61-0-1 50 71 c0 a8
+        digest 0 m-61-1 474542760310752060803a8e36898dd15818a962f04367f4723b56973d2b20cd
+        digest 1 m-61-1 4592af609588cc18ba12c7d9ed51c0e5f0385f0adcc4e4d26c84908de0a9fac9
+        digest 2 m-61-1 02aca0da68ae9d2f6c82e7a9b2ac824fe741bed253458c59a0df7ebfc0917390
+        digest 3 m-61-1 7ca9d711bb723657055b20b92178f258388276447d52726b38b8f2552b0ad33e
+        payloads c-61-1-0 c8 60 98 18
+        payloads c-61-1-1 e6 de ed 83
 
         # an input that gives a byte a call
         clouds 4
