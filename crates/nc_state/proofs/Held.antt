@@ -58,7 +58,7 @@ meta_valid n Never valid = tt
 meta_valid n (Removed generation) valid = valid
 meta_valid n (Stored m v) valid = valid.stored
 
-is_object-Decides : (held : Option (List ℕ)) (object : List ℕ) → Decides (is_object held object) (held ≡ Some object)
+pub is_object-Decides : (held : Option (List ℕ)) (object : List ℕ) → Decides (is_object held object) (held ≡ Some object)
 is_object-Decides None object = (λ e. absurd cc, λ e. absurd cc)
 is_object-Decides (Some bytes) object = (λ e. ap Some ((bytes_eq-Decides bytes object).0 e), λ e. (bytes_eq-Decides bytes object).1 cc)
 

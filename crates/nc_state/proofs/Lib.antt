@@ -18,3 +18,4 @@ pub mod AfterLaws
 pub mod ChunkLaws
 pub mod VaultLaws
 pub mod CommandLaws
+pub mod RightTests

@@ -1,5 +1,5 @@
 -- The laws of chunks.
-use Rattle.std.specs.Prelude.{ℕ, ◌≡◌, ◌≢◌, ◌+◌, ◌*◌, ◌<◌, ◌≤◌, ◌⊎◌, true, Some, List, [], IfSome, length, slice_index, slice_index_or}
+use Rattle.std.specs.Prelude.{ℕ, ◌≡◌, ◌≢◌, ◌+◌, ◌*◌, ◌<◌, ◌≤◌, ◌⊎◌, ◌↔◌, true, Some, List, [], IfSome, length, slice_index, slice_index_or}
 use Rattle.sha2.specs.Sha256.{sha256}
 use Rattle.nc_native.specs.Native.{chunk_size, combination}
 use Rattle.nc_code.specs.Parts.{PlanParts}
@@ -7,6 +7,7 @@ use Rattle.nc_code.specs.Codes.{IsMds, IsWitness, code_row}
 use Rattle.nc_code.specs.Good.{plan_of}
 use Rattle.nc_name.specs.declared.key.Key.{Key}
 use Rattle.nc_name.specs.declared.key.Key.TheVariants as key
+use Rattle.nc_name.specs.Names.{IsName}
 use Rattle.nc_name.specs.Keys.{key_text, name_of}
 use Rattle.nc_frame.specs.Frames.{Sealed}
 use Rattle.nc_meta.specs.declared.meta.Live.{Live}
@@ -17,7 +18,7 @@ use Rattle.nc_state.specs.Clouds.{Clouds}
 use Rattle.nc_state.specs.Versions.{Version, IsValid}
 use Rattle.nc_state.specs.Versions.Version.{Never, Removed, Stored}
 use Rattle.nc_state.specs.Holding.{HoldsVersion}
-use Rattle.nc_state.specs.Right.{HasChunkAt, IsRight, PlacesStand, RightOn, free_slot_of, payload_at}
+use Rattle.nc_state.specs.Right.{HasChunkAt, IsRight, PlacesStand, RightOn, free_slot_of, is_right, payload_at}
 use Rattle.nc_state.specs.Entries.{Entry}
 use Rattle.nc_state.specs.Weighing.{settled}
 use Rattle.nc_state.specs.Rounds.{IsImage, LeavesAtRest, WritesMeta}
@@ -102,3 +103,8 @@ RightIsMarked = (n : ℕ) (name : List ℕ) (m : Live) (v : List ℕ) (c slot ro
 abbrev pub WrongIsDamaged : Type 0
 WrongIsDamaged = (n : ℕ) (F : Contents) (D : Clouds) (name : List ℕ) (x : Version) (c : ℕ) (place : Key)
     → PlacesStand n F D name x → c < n → HasChunkAt name x c place → (IsRight n F x c place → ⊥) → D c ≡ true
+
+-- The test tells whether a chunk of a valid version is right.
+abbrev pub RightIsTested : Type 0
+RightIsTested = (n : ℕ) (F : Contents) (name : List ℕ) (x : Version) (c : ℕ) (place : Key)
+    → IsName name → IsValid n x → c < n → HasChunkAt name x c place → (is_right n F x c place ≡ true) ↔ IsRight n F x c place

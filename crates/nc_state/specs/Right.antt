@@ -1,16 +1,17 @@
 -- The chunks of a version, and where they are right.
-use Rattle.std.specs.Prelude.{ℕ, ◌≡◌, ◌<◌, ◌==◌, false, Some, List, [], if◌then◌else◌, slice_index}
+use Rattle.std.specs.Prelude.{ℕ, ◌≡◌, ◌<◌, ◌==◌, Bool, false, Some, List, [], if◌then◌else◌, slice_index}
 use Rattle.std.specs.Option.{option_map_or}
 use Rattle.nc_native.specs.Native.{combination}
 use Rattle.nc_code.specs.Codes.{code_row}
 use Rattle.nc_name.specs.declared.key.Key.{Key}
 use Rattle.nc_name.specs.declared.key.Key.TheVariants as key
 use Rattle.nc_name.specs.Keys.{key_text}
-use Rattle.nc_frame.specs.Frames.{Sealed, Whole}
+use Rattle.nc_frame.specs.Frames.{Sealed, Whole, frame}
 use Rattle.nc_meta.specs.declared.meta.Meta.{Meta}
 use Rattle.nc_meta.specs.declared.meta.Meta.TheVariants as meta
 use Rattle.nc_cloud.specs.Contents.{Contents}
 use Rattle.nc_state.specs.Clouds.{Clouds}
+use Rattle.nc_state.specs.Holding.{is_object}
 use Rattle.nc_state.specs.Versions.{Version, meta_of}
 use Rattle.nc_state.specs.Versions.Version.{Never, Removed, Stored}
 
@@ -37,6 +38,14 @@ pub record IsRight (n : ℕ) (F : Contents) (x : Version) (c : ℕ) (place : Key
   pub bytes : List ℕ
   pub stands : F c place ≡ Some bytes
   pub is_chunk : IsChunk n x c place bytes
+
+-- the object that it is then
+abbrev pub chunk_object : ℕ → Version → ℕ → Key → List ℕ
+chunk_object n x c place = frame c n (key_text place) (payload_at n x c place)
+
+-- the same as a test
+abbrev pub is_right : ℕ → Contents → Version → ℕ → Key → Bool
+is_right n F x c place = is_object (F c place) (chunk_object n x c place)
 
 -- all chunks of the version on cloud c are right
 abbrev pub RightOn : ℕ → Contents → List ℕ → Version → ℕ → Type 0
