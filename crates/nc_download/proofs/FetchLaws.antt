@@ -2,6 +2,7 @@
 use Rattle.std.proofs.Common.{◌≡◌, ◌<◌, ◌≤◌, ℕ, List, inl, inr, ◌∙◌, subst, arith, Err}
 use Rattle.nc_code.specs.Codes.{IsMds}
 use Rattle.nc_name.specs.Names.{IsName}
+use Rattle.nc_cloud.proofs.Counts.{rose_more}
 use Rattle.nc_cloud.specs.Contents.{Contents, Rose, Grows}
 use Rattle.nc_meta.specs.declared.meta.Live.{Live as LiveMeta}
 use Rattle.nc_meta.specs.declared.meta.Meta.TheVariants.{Live, Gone}
@@ -62,10 +63,6 @@ nothing_read before now (Cloud c) same = tt
 nothing_read before now (Short bads) same = tt
 nothing_read before now Memory same = tt
 nothing_read before now other same = same
-
--- counts that grew and then rose have risen
-pub rose_more : (a b c : ℕ) → a ≤ b → Rose b c → Rose a c
-rose_more a b c low rose = omega (arith, low, rose)
 
 -- a cloud that failed after a look in which none did
 pub later_cause : (n : ℕ) (exact : Type 0) (before mid now : ℕ → ℕ) (c : ℕ) → Grows before mid → (exact → (d : ℕ) → d < n → mid d ≡ before d) → Rose (mid c) (now c) × (exact → (d : ℕ) → d < c → now d ≡ mid d)

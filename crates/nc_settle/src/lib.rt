@@ -15,7 +15,7 @@ mod view;
 
 pub use deciding::{Conflict, Misplaced, Top};
 pub use looking::{look, look_without};
-pub use metas::meta_jobs;
+pub use metas::{meta_jobs, push_job};
 pub use place::Place;
 pub use settled::{SettleFault, Settled};
 pub use settling::settle;

@@ -57,7 +57,7 @@ fn push_named(
         return Ok(());
     }
     let job = meta_job(alloc, cloud, width, name, meta, payload)?;
-    push(jobs, job)?;
+    push_job(jobs, job)?;
     Ok(())
 }
 
@@ -94,7 +94,8 @@ fn meta_key(name: &Name, meta: &Meta) -> Key
     }
 }
 
-fn push(jobs: &mut Vec<Job>, job: Job) -> Result<(), Memory>
+/// Adds a write to those of a round.
+pub fn push_job(jobs: &mut Vec<Job>, job: Job) -> Result<(), Memory>
     ensures { OnOk result (jobs.new.items ≡ jobs.old.items ++ job ∷ []) }
 {
     match jobs.push(job) {

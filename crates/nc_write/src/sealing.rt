@@ -12,7 +12,7 @@ use nc_cloud::{Done, Job};
 use nc_frame::seal;
 use nc_meta::{Live, Meta};
 use nc_name::{Blob, Key, Memory, Name};
-use nc_settle::meta_jobs;
+use nc_settle::{meta_jobs, push_job};
 use std::alloc::Global;
 
 /// A chunk, and the cloud that it goes to.
@@ -105,7 +105,7 @@ fn push_chunk(
 {
     let key = chunk_key(width, name, live, row, placed.cloud);
     let job = sealed_job(alloc, placed.cloud, width, &key, placed.chunk.bytes())?;
-    push(jobs, job)?;
+    push_job(jobs, job)?;
     Ok(())
 }
 
@@ -139,13 +139,4 @@ fn sealed_job(alloc: Global, cloud: u8, width: u8, key: &Key, payload: &[u8]) ->
         bytes,
         done: Done::Waiting,
     })
-}
-
-fn push(jobs: &mut Vec<Job>, job: Job) -> Result<(), Memory>
-    ensures { OnOk result (jobs.new.items ≡ jobs.old.items ++ job ∷ []) }
-{
-    match jobs.push(job) {
-        Ok(()) => Ok(()),
-        Err(_) => Err(Memory),
-    }
 }

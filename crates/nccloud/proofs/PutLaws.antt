@@ -149,13 +149,15 @@ module _ {A : Type 0} (F : FleetGhosts A) (s : Setting) (name v : List ℕ) wher
   -- the name was settled, from old to mid, or that failed
   module _ {old mid : A} (begins : F.tells → ForEachVault (F.clouds old) (F.held old) (λ V. Keeps F old mid (NothingMade (F.clouds old) name V)))
       (alone : F.tells → Keeps F old mid (ChangesOnlyName name (F.held old))) (clouds : F.clouds mid ≡ F.clouds old) (grows : Grows (F.faults old) (F.faults mid)) (time : GoesOn F old mid) where
-    pub puts_refused : IsName name → (f : SettleFault) → (F.tells → SettleRefuses (F.clouds old) name (F.held old) f) → (IsSeenFault f → F.held mid ≡ F.held old)
-        → HasSettleCause F.counts_exactly (F.faults old) (F.faults mid) f → Puts F s name v old mid (Err (fault_of_settle f))
-    puts_refused is f refused kept cause = record {
-      kind = settle_kind f;
+    -- nothing but that was done
+    stopped_here : (f : Fault) → IsPutFault f → (F.tells → PutRefuses (F.clouds old) s name (F.held old) f) → (IsUnwritten f → F.held mid ≡ F.held old)
+        → (F.tells → (S : Entries) (D : Clouds) → Stands (F.clouds old) (F.held old) S D → PutStops (F.clouds old) s name (record { contents = F.held old; entries = S; damaged = D }) f)
+        → HasFaultCause F.counts_exactly (F.clouds old) (F.faults old) (F.faults mid) f → Puts F s name v old mid (Err f)
+    stopped_here f kind refused kept stops cause = record {
+      kind = kind;
       stored = λ told. tt;
-      refused = λ told. settle_refused (F.clouds old) s name (F.held old) f (refused told);
-      unwritten = λ seen. kept (settle_seen f seen);
+      refused = refused;
+      unwritten = kept;
       alone = alone;
       stands = λ told. record {
         each = λ S D stands.
@@ -163,66 +165,37 @@ module _ {A : Type 0} (F : FleetGhosts A) (s : Setting) (name v : List ℕ) wher
             record {
               begun = made_nothing (F.clouds old) (IsPut (F.clouds old) s name v) V ((begins told).each S D stands);
               done = tt;
-              stops = settle_stops (F.clouds old) s name (F.held old) S D f is stands (refused told);
+              stops = stops told S D stands;
             };
       };
-      cause = settle_cause F.counts_exactly (F.clouds old) (F.faults old) (F.faults mid) f cause;
+      cause = cause;
       clean = tt;
       clouds = clouds;
       grows = grows;
       time = time;
     }
 
+    pub puts_refused : IsName name → (f : SettleFault) → (F.tells → SettleRefuses (F.clouds old) name (F.held old) f) → (IsSeenFault f → F.held mid ≡ F.held old)
+        → HasSettleCause F.counts_exactly (F.faults old) (F.faults mid) f → Puts F s name v old mid (Err (fault_of_settle f))
+    puts_refused is f refused kept cause =
+        stopped_here (fault_of_settle f) (settle_kind f) (λ told. settle_refused (F.clouds old) s name (F.held old) f (refused told)) (λ seen. kept (settle_seen f seen))
+        (λ told S D stands. settle_stops (F.clouds old) s name (F.held old) S D f is stands (refused told)) (settle_cause F.counts_exactly (F.clouds old) (F.faults old) (F.faults mid) f cause)
+
     -- it was settled on this metadata
     module _ (top : Option Meta) (is_top : F.tells → IsTopOrNone (F.clouds old) (F.held old) name top)
         (comes : F.tells → ForEachVault (F.clouds old) (F.held old) (λ V. ComesTo (F.clouds old) name V (F.held mid) top))
         (clean : F.counts_exactly → (c : ℕ) → F.faults mid c ≡ F.faults old c) where
       pub puts_worn : IfSome top (IsMeta (F.clouds old)) → 2 ^ 64 - 2 ≤ top_generation top → Puts F s name v old mid (Err fault.Worn)
-      puts_worn fits last = record {
-        kind = tt;
-        stored = λ told. tt;
-        refused = λ told. worn_at (F.clouds old) name (F.held old) top (is_top told) fits last;
-        unwritten = λ no. absurd no;
-        alone = alone;
-        stands = λ told. record {
-          each = λ S D stands.
-              let V : Vault = record { contents = F.held old; entries = S; damaged = D } in
-              record {
-                begun = made_nothing (F.clouds old) (IsPut (F.clouds old) s name v) V ((begins told).each S D stands);
-                done = tt;
-                stops = subst (λ (t : Option Meta). 2 ^ 64 - 2 ≤ top_generation t) (sym ((comes told).each S D stands).is_top) last;
-              };
-        };
-        cause = λ exact c within. clean exact c;
-        clean = tt;
-        clouds = clouds;
-        grows = grows;
-        time = time;
-      }
+      puts_worn fits last =
+          stopped_here fault.Worn tt (λ told. worn_at (F.clouds old) name (F.held old) top (is_top told) fits last) (λ no. absurd no)
+          (λ told S D stands. subst (λ (t : Option Meta). 2 ^ 64 - 2 ≤ top_generation t) (sym ((comes told).each S D stands).is_top) last) (λ exact c within. clean exact c)
 
       pub puts_spent : (tried : ℕ) → top_generation top < 2 ^ 64 - 2 → tried ≡ s.budget → NoStart (F.clouds old) (next_key s name top) s.budget
           → Puts F s name v old mid (Err (fault.Spent tried))
-      puts_spent tried has_next all none = record {
-        kind = tt;
-        stored = λ told. tt;
-        refused = λ told. record { all = all; top = top; is_top = is_top told; has_next = has_next; none = none };
-        unwritten = λ no. absurd no;
-        alone = alone;
-        stands = λ told. record {
-          each = λ S D stands.
-              let V : Vault = record { contents = F.held old; entries = S; damaged = D } in
-              record {
-                begun = made_nothing (F.clouds old) (IsPut (F.clouds old) s name v) V ((begins told).each S D stands);
-                done = tt;
-                stops = (all, subst (λ (t : Option Meta). NoStart (F.clouds old) (next_key s name t) s.budget) (sym ((comes told).each S D stands).is_top) none);
-              };
-        };
-        cause = λ exact c within. clean exact c;
-        clean = tt;
-        clouds = clouds;
-        grows = grows;
-        time = time;
-      }
+      puts_spent tried has_next all none =
+          stopped_here (fault.Spent tried) tt (λ told. record { all = all; top = top; is_top = is_top told; has_next = has_next; none = none }) (λ no. absurd no)
+          (λ told S D stands. (all, subst (λ (t : Option Meta). NoStart (F.clouds old) (next_key s name t) s.budget) (sym ((comes told).each S D stands).is_top) none))
+          (λ exact c within. clean exact c)
 
       -- its code was drawn, and its writes were begun, from mid to new
       module _ (index : ℕ) (good : GoodParts) (drawn : IsStart (F.clouds old) (next_key s name top) s.budget index good) {new : A}
