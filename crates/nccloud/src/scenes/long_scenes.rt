@@ -32,16 +32,6 @@ fn long_scenes(rt: HostRuntime) -> Result<(), Fail> {
         lose 5
         get a -> 0 Ok = mixed:100003
 
-        # a short file over a long one, and a long one over it
-        clouds 7
-        put a < mixed:100003 -> 0 Ok = generation:1
-        put a < mixed:11 -> 0 Ok = generation:2
-        get a -> 0 Ok = mixed:11
-        put a < mixed:100003 -> 0 Ok = generation:3
-        lose 0
-        lose 6
-        get a -> 0 Ok = mixed:100003
-
         # a long file comes back from 10 clouds and without two
         clouds 10
         put a < mixed:100003 -> 0 Ok = generation:1

@@ -63,6 +63,16 @@ fn over_scenes(rt: HostRuntime) -> Result<(), Fail> {
         size 1 c-61-1-1 57
         without two: get a -> 0 Ok = "abc"
 
+        # a short file over a long one, and a long one over it
+        clouds 7
+        put a < mixed:100003 -> 0 Ok = generation:1
+        put a < mixed:11 -> 0 Ok = generation:2
+        get a -> 0 Ok = mixed:11
+        put a < mixed:100003 -> 0 Ok = generation:3
+        lose 0
+        lose 6
+        get a -> 0 Ok = mixed:100003
+
         # over a file without witnesses
         clouds 4
         seal each c-61-0-0 "ab" "ef" 0404 abae
