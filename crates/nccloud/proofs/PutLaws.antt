@@ -30,6 +30,7 @@ use Rattle.nc_write.specs.Putting.{IsPutBy, IsStored, put_meta}
 use Rattle.nc_write.specs.declared.fault.WriteFault.{WriteFault}
 use Rattle.nc_write.specs.declared.fault.WriteFault.TheVariants as write
 use Rattle.nccloud.specs.declared.setting.Setting.{Setting}
+use Rattle.nccloud.specs.declared.status.Fault.{Fault}
 use Rattle.nccloud.specs.declared.status.Fault.TheVariants as fault
 use Rattle.nccloud.specs.Counting.{HasFaultCause}
 use Rattle.nccloud.specs.Putting.{IsPut, IsPutFault, IsUnwritten, IsWornAt, PutIsDone, PutRefuses, PutStops, Puts, next_key}
