@@ -1,5 +1,5 @@
 -- What follows for a look.
-use Rattle.std.proofs.Common.{ℕ, suc, ◌≡◌, ◌≢◌, ◌+◌, ◌<◌, ◌≤◌, ◌&&◌, Bool, true, false, Option, None, Some, List, [], ◌∷◌, All, length, map, get_or, replicate, inl, inr, sym, ap, ◌∙◌, subst, refl, arith, nat_eq, if◌then◌else◌}
+use Rattle.std.proofs.Common.{ℕ, suc, ◌≡◌, ◌≢◌, ◌+◌, ◌<◌, ◌&&◌, Bool, true, false, None, Some, List, [], ◌∷◌, All, length, map, get_or, replicate, inl, inr, sym, ap, ◌∙◌, subst, refl, arith, nat_eq, if◌then◌else◌}
 use Rattle.std.proofs.lemmas.Bool.{cases_lt}
 use Rattle.std.proofs.lemmas.List.{get_or-replicate, get_or_past}
 use Rattle.nc_name.specs.declared.key.Key.{Key}
@@ -14,7 +14,7 @@ use Rattle.nc_cloud.proofs.Decisions.{once}
 use Rattle.nc_cloud.proofs.SomeRows.{ascend_some, entry_is, has_entry}
 use Rattle.nc_state.specs.Clouds.{Clouds}
 use Rattle.nc_settle.specs.declared.place.Place.{Place}
-use Rattle.nc_settle.specs.declared.place.Place.TheVariants.{Absent, Failed}
+use Rattle.nc_settle.specs.declared.place.Place.TheVariants.{Absent}
 use Rattle.nc_settle.specs.Judging.{HasMetaOf, IsPlaceOf}
 use Rattle.nc_settle.specs.Rounds.{AreJudged, IsJudged, IsUnasked, meta_ask, meta_ask_outside}
 use Rattle.nc_settle.specs.Looking.{SeesSlot, FailuresRose, HasMetasIn, OnlyFailuresRoseIn, OthersRose, OthersRoseIn, SkipsFailedIn}

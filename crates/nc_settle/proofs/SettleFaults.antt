@@ -1,5 +1,5 @@
 -- Why a name isn't settled.
-use Rattle.std.proofs.Common.{◌≡◌, ◌<◌, ◌≤◌, ◌∙◌, ℕ, List}
+use Rattle.std.proofs.Common.{◌≡◌, ◌≤◌, ℕ, List}
 use Rattle.nc_name.specs.Names.{IsName}
 use Rattle.nc_cloud.specs.Contents.{Contents}
 use Rattle.nc_settle.specs.declared.settled.SettleFault.{SettleFault}

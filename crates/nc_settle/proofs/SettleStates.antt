@@ -1,5 +1,5 @@
 -- Settling, over the states of a fleet: at s before the look, at t after it, at u after the writes.
-use Rattle.std.proofs.Common.{◌≡◌, ◌<◌, ◌≤◌, ◌∙◌, ℕ, Option, None, Some, List, refl, sym, subst}
+use Rattle.std.proofs.Common.{◌≡◌, ◌<◌, ◌≤◌, ℕ, Option, None, Some, List, sym, subst}
 use Rattle.nc_name.specs.Names.{IsName}
 use Rattle.nc_meta.specs.declared.meta.Meta.{Meta}
 use Rattle.nc_cloud.specs.Contents.{Contents, Write}

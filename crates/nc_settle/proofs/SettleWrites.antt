@@ -1,11 +1,11 @@
 -- What settling writes, by what was seen.
-use Rattle.std.proofs.Common.{◌≡◌, ◌≢◌, ◌<◌, ◌≤◌, ◌+◌, ◌%◌, ℕ, length, set, length-set, Bool, true, false, not, nat_eq, if◌then◌else◌, Option, None, Some, List, eq-eqb, inl, inr, refl, sym, ap, ◌∙◌, subst, arith}
+use Rattle.std.proofs.Common.{◌≡◌, ◌<◌, ◌≤◌, ◌+◌, ◌%◌, ℕ, length, set, length-set, Bool, true, false, not, nat_eq, if◌then◌else◌, None, Some, List, eq-eqb, inl, inr, refl, sym, ap, ◌∙◌, subst, arith}
 use Rattle.std.proofs.lemmas.Bool.{cases_lt}
 use Rattle.std.proofs.lemmas.Bool.Decides.{eqb_tells}
 use Rattle.std.proofs.lemmas.List.{get_or-set_other, get_or-set_same}
 use Rattle.nc_name.specs.Names.{IsName}
 use Rattle.nc_meta.specs.declared.meta.Meta.{Meta}
-use Rattle.nc_meta.specs.Metas.{IsMeta, generation_of}
+use Rattle.nc_meta.specs.Metas.{generation_of}
 use Rattle.nc_cloud.specs.Contents.{Contents, Store, Write}
 use Rattle.nc_cloud.specs.declared.fleet.Job.{Job}
 use Rattle.nc_cloud.specs.Fleet.{write, writes}

@@ -1,5 +1,5 @@
 -- Settling a name: what is refused, and what is written.
-use Rattle.std.specs.Prelude.{ℕ, ◌≡◌, ◌<◌, ◌+◌, ◌%◌, Bool, true, false, not, List, length, nat_eq}
+use Rattle.std.specs.Prelude.{ℕ, ◌≡◌, ◌<◌, ◌%◌, Bool, false, not, List, length, nat_eq}
 use Rattle.nc_meta.specs.declared.meta.Meta.{Meta}
 use Rattle.nc_meta.specs.Metas.{generation_of}
 use Rattle.nc_cloud.specs.Contents.{Contents, Write}

@@ -1,5 +1,5 @@
 -- What changes objects of one name alone.
-use Rattle.std.proofs.Common.{◌≡◌, ◌<◌, ℕ, Option, None, Some, List, refl, sym, ap, ◌∙◌, subst}
+use Rattle.std.proofs.Common.{◌≡◌, ℕ, Option, None, Some, List, refl, sym, ap, ◌∙◌, subst}
 use Rattle.nc_name.specs.declared.key.Key.{Key}
 use Rattle.nc_name.specs.Keys.{name_of}
 use Rattle.nc_cloud.specs.Contents.{Contents, Store, Write}

@@ -12,7 +12,6 @@ use Rattle.nc_meta.specs.declared.meta.Meta.TheVariants as meta
 use Rattle.nc_state.specs.Mending.{IsMended}
 use Rattle.nc_name.specs.declared.key.Key.{Key}
 use Rattle.nc_name.specs.declared.key.Key.TheVariants as key
-use Rattle.nc_state.specs.Clouds.{Clouds}
 use Rattle.nc_name.specs.Keys.{key_text}
 use Rattle.nc_frame.specs.Frames.{Sealed}
 use Rattle.nc_frame.proofs.Shapes.{same_parts, whole_of}
@@ -21,7 +20,7 @@ use Rattle.nc_state.proofs.CloudSets.{not_false}
 use Rattle.nc_cloud.specs.Contents.{Contents}
 use Rattle.nc_state.specs.Versions.{Version}
 use Rattle.nc_state.specs.Versions.Version.{Never, Removed, Stored}
-use Rattle.nc_state.specs.Right.{IsChunk, IsRight, HasChunkAt, PlacesStand, RightOn, free_slot, free_slot_of, payload_at}
+use Rattle.nc_state.specs.Right.{IsChunk, IsRight, HasChunkAt, free_slot, free_slot_of, payload_at}
 use Rattle.nc_state.specs.ChunkLaws.{FreeSlotIsFree, MendedIsFree, MendedIsValid, MendedKeepsChunks, NewPlacesStand, NothingToBeRight, OnlyRightIsSealed, RightIsMarked, WrongIsDamaged}
 
 differs : (slot : ℕ) → (if slot == 0 then 1 else 0) ≡ slot → ⊥

@@ -8,7 +8,7 @@ use Rattle.nc_cloud.specs.Contents.{Contents}
 use Rattle.nc_name.specs.Names.{IsName}
 use Rattle.nc_state.specs.Clouds.{Clouds}
 use Rattle.nc_state.specs.Versions.{Version, meta_of, version_generation}
-use Rattle.nc_state.specs.Holding.{AllHold, HeldByAll, Holds, HoldsIfAny, IsSettledOn, NoneAbove}
+use Rattle.nc_state.specs.Holding.{AllHold, HeldByAll, Holds, HoldsIfAny, NoneAbove}
 use Rattle.nc_state.specs.Entries.{Entry, HasEntry}
 use Rattle.nc_state.specs.Entries.Entry.{Rest, Opened}
 use Rattle.nc_state.specs.Weighing.{after, all_outside_hold, settled, some_holds, weigh}

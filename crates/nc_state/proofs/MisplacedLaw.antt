@@ -1,23 +1,12 @@
 -- Nothing is misplaced.
-use Rattle.std.proofs.Common.{◌≡◌, ◌<◌, ◌≤◌, ℕ, Option, None, Some, List, refl, sym, ap, ◌∙◌, subst, arith}
-use Rattle.std.specs.Option.{option_map_or}
-use Rattle.nc_meta.specs.declared.meta.Meta.{Meta}
-use Rattle.nc_meta.specs.Metas.{generation_of, spelling}
-use Rattle.nc_cloud.specs.Contents.{Contents}
-use Rattle.nc_state.specs.Clouds.{Clouds, count_of}
-use Rattle.nc_state.specs.Versions.{IsValid, Version, meta_of, version_generation}
-use Rattle.nc_state.specs.Holding.{HoldsIfAny, IsTop, meta_key}
-use Rattle.nc_state.specs.Right.{PlacesStand}
+use Rattle.std.proofs.Common.{ℕ, List, sym, subst}
+use Rattle.nc_meta.specs.Metas.{spelling}
+use Rattle.nc_state.specs.Holding.{meta_key}
 use Rattle.nc_state.proofs.Held.{object_sealed}
 use Rattle.nc_frame.specs.Frames.{Sealed}
 use Rattle.nc_frame.proofs.Shapes.{same_parts, whole_of}
 use Rattle.nc_name.specs.Keys.{key_text}
-use Rattle.nc_state.specs.Entries.{Entry, HasEntry}
-use Rattle.nc_state.specs.Entries.Entry.{Rest, Opened}
-use Rattle.nc_state.specs.Weighing.{settled}
 use Rattle.nc_state.specs.Laws.{NoneMisplaced}
-use Rattle.nc_state.proofs.CloudSets.{some_outside}
-use Rattle.nc_state.proofs.Weighs.{open_settled}
 
 pub none_misplaced : NoneMisplaced
 none_misplaced n F S D name c slot a w bytes text payload is stands l at other =

@@ -1,8 +1,8 @@
 -- The test whether a chunk is right.
-use Rattle.std.proofs.Common.{◌≡◌, ◌<◌, ◌≤◌, ◌+◌, ◌*◌, ◌^◌, ◌↔◌, ℕ, true, Some, List, length, slice_index, inl, inr, refl, sym, ap, ◌∙◌, subst, arith}
+use Rattle.std.proofs.Common.{◌<◌, ◌≤◌, ◌+◌, ◌*◌, ◌^◌, ℕ, Some, List, length, slice_index, inl, inr, refl, sym, ap, ◌∙◌, subst, arith}
 use Rattle.std.proofs.lemmas.Bool.{cases_lt}
 use Rattle.std.proofs.lemmas.List.{get_or_past}
-use Rattle.std.proofs.lemmas.List.FromFn.{get_or-map-range_with_len, length-map-range_with_len}
+use Rattle.std.proofs.lemmas.List.FromFn.{get_or-map-range_with_len}
 use Rattle.std.proofs.Math.Nat.{le-mul_of_pos_right}
 use Rattle.std.proofs.lemmas.Grind.{div_ceil_times}
 use Rattle.nc_bytes.specs.Bytes.{AreBytes}
@@ -20,10 +20,9 @@ use Rattle.nc_name.specs.Keys.{key_text}
 use Rattle.nc_frame.specs.Frames.{HasFrame}
 use Rattle.nc_frame.proofs.Shapes.{has_frame}
 use Rattle.nc_meta.specs.declared.meta.Live.{Live}
-use Rattle.nc_cloud.specs.Contents.{Contents}
-use Rattle.nc_state.specs.Versions.{Version, IsValid, IsValidFor}
+use Rattle.nc_state.specs.Versions.{IsValidFor}
 use Rattle.nc_state.specs.Versions.Version.{Never, Removed, Stored}
-use Rattle.nc_state.specs.Right.{HasChunkAt, IsRight, chunk_object, is_right, payload_at}
+use Rattle.nc_state.specs.Right.{HasChunkAt, chunk_object}
 use Rattle.nc_state.specs.ChunkLaws.{RightIsTested}
 use Rattle.nc_state.proofs.Held.{is_object-Decides}
 

@@ -1,5 +1,5 @@
 -- What is seen is what the entry shows.
-use Rattle.std.proofs.Common.{◌≡◌, ◌<◌, ◌≤◌, ◌+◌, ◌≢◌, ℕ, false, true, Option, None, Some, List, inl, inr, refl, sym, ap, ◌∙◌, subst, arith}
+use Rattle.std.proofs.Common.{◌≡◌, ◌<◌, ◌≤◌, ◌+◌, ◌≢◌, ℕ, false, Option, None, Some, List, inl, inr, refl, sym, ap, ◌∙◌, subst, arith}
 use Rattle.std.specs.Option.{option_map_or}
 use Rattle.std.proofs.lemmas.Bool.Decides.{eqb_tells}
 use Rattle.nc_meta.specs.declared.meta.Meta.{Meta}
@@ -7,7 +7,6 @@ use Rattle.nc_meta.specs.Metas.{generation_of}
 use Rattle.nc_cloud.specs.Contents.{Contents}
 use Rattle.nc_state.specs.Clouds.{Clouds, any_of}
 use Rattle.nc_state.specs.Versions.{Version, meta_of, version_generation}
-use Rattle.nc_state.specs.Versions.Version.{Never}
 use Rattle.nc_state.specs.Holding.{Holds, HoldsIfAny, meta_key}
 use Rattle.nc_state.specs.Entries.{Entry, HasEntry}
 use Rattle.nc_state.specs.Entries.Entry.{Rest, Opened}

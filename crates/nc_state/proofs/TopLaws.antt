@@ -1,12 +1,11 @@
 -- The highest metadata that clouds hold, where all of them answer.
-use Rattle.std.proofs.Common.{◌≡◌, ◌<◌, ◌≤◌, ◌+◌, ◌||◌, ℕ, zero, suc, Bool, false, true, if◌then◌else◌, Option, None, Some, List, refl, sym, ap, ◌∙◌, subst, arith}
+use Rattle.std.proofs.Common.{◌≡◌, ◌≤◌, ◌+◌, ◌||◌, ℕ, zero, suc, Bool, false, true, if◌then◌else◌, Option, None, Some, List, refl, sym, ap, ◌∙◌, subst, arith}
 use Rattle.nc_meta.specs.declared.meta.Meta.{Meta}
 use Rattle.nc_meta.specs.Metas.{generation_of}
-use Rattle.nc_name.specs.Names.{IsName}
 use Rattle.nc_cloud.specs.Contents.{Contents}
 use Rattle.nc_state.specs.Clouds.{Clouds, any_of, count_of, no_cloud}
 use Rattle.nc_state.specs.Versions.{Version, IsValid, meta_of, version_generation}
-use Rattle.nc_state.specs.Holding.{Holds, IsDisputed, IsTop, IsTopOrNone, OneMeta}
+use Rattle.nc_state.specs.Holding.{IsTop, IsTopOrNone, OneMeta}
 use Rattle.nc_state.specs.Right.{PlacesStand}
 use Rattle.nc_state.specs.Entries.{Entry}
 use Rattle.nc_state.specs.Entries.Entry.{Rest, Opened}

@@ -1,14 +1,14 @@
 -- Whole vaults.
-use Rattle.std.proofs.Common.{◌≡◌, ◌<◌, ◌≤◌, ◌+◌, ◌==◌, ◌&&◌, ℕ, zero, suc, Bool, true, false, not, if◌then◌else◌, Option, None, Some, is_some, List, refl, sym, ap, subst, inl, inr, arith}
+use Rattle.std.proofs.Common.{◌≡◌, ◌<◌, ◌≤◌, ◌+◌, ◌==◌, ◌&&◌, ℕ, zero, suc, Bool, true, false, not, if◌then◌else◌, None, is_some, List, refl, sym, ap, subst, inl, inr, arith}
 use Rattle.std.specs.Option.{option_map_or}
 use Rattle.std.proofs.lemmas.Bool.Decides.{eqb_tells}
 use Rattle.nc_meta.specs.declared.meta.Meta.{Meta}
 use Rattle.nc_meta.specs.Metas.{generation_of}
 use Rattle.nc_cloud.specs.Contents.{Contents}
 use Rattle.nc_state.specs.Clouds.{Clouds, count_of, without_cloud}
-use Rattle.nc_state.specs.Versions.{Version, meta_of, version_generation}
-use Rattle.nc_state.specs.Versions.Version.{Never, Removed, Stored}
-use Rattle.nc_state.specs.Holding.{Holds, HoldsIfAny, HoldsVersion, meta_key}
+use Rattle.nc_state.specs.Versions.{meta_of, version_generation}
+use Rattle.nc_state.specs.Versions.Version.{Never}
+use Rattle.nc_state.specs.Holding.{Holds, HoldsVersion, meta_key}
 use Rattle.nc_state.specs.Right.{IsRight, HasChunkAt}
 use Rattle.nc_state.specs.Entries.{Entry, HasEntry}
 use Rattle.nc_state.specs.Entries.Entry.{Rest, Opened}

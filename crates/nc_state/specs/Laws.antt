@@ -1,34 +1,25 @@
 -- The laws of what stands.
-use Rattle.std.specs.Prelude.{ℕ, ◌≡◌, ◌≢◌, ◌+◌, ◌*◌, ◌<◌, ◌≤◌, ◌↔◌, ◌⊎◌, false, Contains, Option, Some, List, [], IfSome, slice_index, slice_index_or}
-use Rattle.sha2.specs.Sha256.{sha256}
-use Rattle.nc_native.specs.Native.{combination}
-use Rattle.nc_code.specs.Parts.{PlanParts}
-use Rattle.nc_code.specs.Codes.{IsMds, IsWitness, code_row}
-use Rattle.nc_code.specs.Good.{plan_of}
-use Rattle.nc_meta.specs.declared.meta.Live.{Live}
-use Rattle.nc_name.specs.declared.key.Key.{Key}
+use Rattle.std.specs.Prelude.{ℕ, ◌≡◌, ◌≢◌, ◌<◌, ◌≤◌, ◌↔◌, ◌⊎◌, false, Contains, Option, Some, List}
 use Rattle.nc_name.specs.declared.key.Key.TheVariants as key
 use Rattle.nc_name.specs.Names.{IsName}
 use Rattle.nc_name.specs.Keys.{key_text}
 use Rattle.nc_frame.specs.Frames.{Sealed}
 use Rattle.nc_meta.specs.declared.meta.Meta.{Meta}
-use Rattle.nc_meta.specs.Metas.{Spells, IsLive, generation_of}
+use Rattle.nc_meta.specs.Metas.{Spells}
 use Rattle.nc_cloud.specs.Contents.{Contents, Write, nothing}
 use Rattle.nc_cloud.specs.Images.{Image}
 use Rattle.nc_state.specs.Clouds.{Clouds, count_of, no_cloud, with_cloud, without_cloud}
-use Rattle.nc_state.specs.Versions.Version.{Never, Removed, Stored}
-use Rattle.nc_state.specs.Versions.{Version, IsValid, meta_of, version_generation}
-use Rattle.nc_state.specs.Holding.{AllHold, Holds, HoldsSealed, IsDisputed, IsTopOrNone, meta_key, meta_object}
-use Rattle.nc_state.specs.Right.{HasChunkAt, PlacesStand, RightOn, free_slot_of}
+use Rattle.nc_state.specs.Versions.Version.{Never}
+use Rattle.nc_state.specs.Versions.{Version}
+use Rattle.nc_state.specs.Holding.{Holds, HoldsSealed, IsDisputed, IsTopOrNone, meta_key, meta_object}
 use Rattle.nc_state.specs.Entries.{Entry, HasEntry, Rests}
 use Rattle.nc_state.specs.Entries.Entry.{Rest, Opened}
-use Rattle.nc_state.specs.Weighing.{after, settled, weigh}
+use Rattle.nc_state.specs.Weighing.{after, settled}
 use Rattle.nc_state.specs.Showing.{AreBearable, IsSeenTop, IsSettledTop, IsShown, ReadsAs, UnlistedOutside}
-use Rattle.nc_state.specs.Standing.{AreNames, Entries, IsHealed, Stands, no_entry, with_entry}
+use Rattle.nc_state.specs.Standing.{AreNames, Entries, IsHealed, Stands, no_entry}
 use Rattle.nc_state.specs.Commands.{IsNext}
 use Rattle.nc_state.specs.Losses.{Loses, weighed}
-use Rattle.nc_state.specs.Mending.{IsMended}
-use Rattle.nc_state.specs.Rounds.{IsEntry, IsImage, LeavesAtRest, WritesMeta, WritesMissing}
+use Rattle.nc_state.specs.Rounds.{IsEntry, IsImage}
 
 -- clouds without objects stand for no names, and nothing is damaged
 abbrev pub EmptyStands : Type 0

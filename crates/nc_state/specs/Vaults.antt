@@ -1,5 +1,5 @@
 -- What a command on one name makes of a vault, wherever it is stopped and at its end.
-use Rattle.std.specs.Prelude.{ℕ, ◌≡◌, Option, None, Some, List, IfSome}
+use Rattle.std.specs.Prelude.{ℕ, ◌≡◌, Option, None, List, IfSome}
 use Rattle.nc_name.specs.declared.key.Key.{Key}
 use Rattle.nc_name.specs.Keys.{name_of}
 use Rattle.nc_meta.specs.declared.meta.Meta.{Meta}
