@@ -2,6 +2,9 @@
 //! entry whose name isn't UTF-8, which no test can make.
 #![tactic(auto)]
 
+ghost use Rattle.std.specs.Prelude.{◌≡◌};
+ghost use Rattle.nc_listing.specs.Telling.{told};
+
 use nc_cloud::{Cloud, CloudError, KeyList};
 use nc_folder::FolderCloud;
 use std::{env, io};
@@ -24,7 +27,9 @@ fn list(rt: HostRuntime, path: &str) -> &'static str {
 }
 
 /// What a list answered.
-fn said(answer: &Result<KeyList, CloudError>) -> &'static str {
+fn said(answer: &Result<KeyList, CloudError>) -> &'static str
+    ensures { result.now ≡ told answer.now }
+{
     match answer {
         Ok(keys) if keys.items().is_empty() => "no keys",
         Ok(_) => "keys",
