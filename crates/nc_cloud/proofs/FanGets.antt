@@ -25,7 +25,7 @@ asks = record {
 }
 
 abbrev pub GetRound : {C : Type 0} → CloudGhosts C → List Ask → List Ask → List (Seat C) → List (Seat C) → List (Seat C) → Type 0
-GetRound K xs left old mid new = FanRound K asks (DidGet K) xs left old mid new
+GetRound K xs left old mid new = FanRound K.counts_exactly K.faults K.slips asks (DidGet K) xs left old mid new
 
 module _ {C : Type 0} {K : CloudGhosts C} {xs left : List Ask} {old mid new : List (Seat C)} (r : GetRound K xs left old mid new) where
   pub fan_asked : map asked left ≡ map asked xs

@@ -3,7 +3,6 @@ use Rattle.std.proofs.Common.{◌≡◌, ◌≢◌, ℕ, ◌<◌, ◌≤◌, Non
 use Rattle.std.specs.List.{find}
 use Rattle.std.proofs.lemmas.List.{length-map, get_or-map}
 use Rattle.std.proofs.lemmas.List.Elements.{All-map}
-use Rattle.nc_cloud.specs.declared.cloud.Cloud.{Ghosts as CloudGhosts}
 use Rattle.nc_cloud.specs.declared.seats.Seat.{Seat}
 use Rattle.nc_cloud.specs.Contents.{Rose, Grows}
 use Rattle.nc_cloud.specs.Seats.{AllServed, Ended, Serves, clouds_in, count_at}
@@ -26,15 +25,15 @@ abbrev pub collected : {C X A : Type 0} → Kind C X A → List (Seat C) → X �
 collected kind seats x = kind.with_answer (get_or (map kind.seated seats) (kind.cloud x) kind.waiting) x
 
 -- each seat served its entry, and then each entry took its answer
-pub record FanRound {C X A : Type 0} (K : CloudGhosts C) (kind : Kind C X A) (did : X → Seat C → Seat C → Type 0) (xs left : List X) (old mid new : List (Seat C)) : Type 0 where
+pub record FanRound {C X A : Type 0} (exactly : Type 0) (count other : C → ℕ) (kind : Kind C X A) (did : X → Seat C → Seat C → Type 0) (xs left : List X) (old mid new : List (Seat C)) : Type 0 where
   pub below : All (λ x. kind.cloud x < length old) xs
   pub once : AllPairs (λ x y. kind.cloud x ≢ kind.cloud y) xs
   pub served : AllServed (λ c. Serves did (find (λ x. nat_eq (kind.cloud x) c) xs)) old mid
   pub answers : left ≡ map (collected kind mid) xs
   pub clouds : clouds_in new ≡ clouds_in mid
-  pub ended : (x : X) (s t : Seat C) → did x s t → Ended K kind.waiting kind.failed (kind.seated t) s.cloud t.cloud
+  pub ended : (x : X) (s t : Seat C) → did x s t → Ended exactly count other kind.waiting kind.failed (kind.seated t) s.cloud t.cloud
 
-module _ {C X A : Type 0} {K : CloudGhosts C} {kind : Kind C X A} {did : X → Seat C → Seat C → Type 0} {xs left : List X} {old mid new : List (Seat C)} (r : FanRound K kind did xs left old mid new) where
+module _ {C X A : Type 0} {exactly : Type 0} {count other : C → ℕ} {kind : Kind C X A} {did : X → Seat C → Seat C → Type 0} {xs left : List X} {old mid new : List (Seat C)} (r : FanRound exactly count other kind did xs left old mid new) where
   abbrev Did : ℕ → X → Type 0
   Did c x = Served did old mid c x
 
@@ -49,7 +48,7 @@ module _ {C X A : Type 0} {K : CloudGhosts C} {kind : Kind C X A} {did : X → S
   answer_in c x s = get_or-map kind.seated mid c s.seat kind.waiting s.within_mid
 
   -- each entry is served in one seat, whose answer stands in it
-  all_left : (P : X → Type 0) → ((x : X) (s : Did (kind.cloud x) x) → P (with_seat x s.seat)) → All P left
+  pub all_left : (P : X → Type 0) → ((x : X) (s : Did (kind.cloud x) x) → P (with_seat x s.seat)) → All P left
   all_left P each =
       subst (All P) (sym r.answers) (All-map P (collected kind mid) xs (λ k d l.
       let x : X = get_or xs k d in
@@ -101,20 +100,20 @@ module _ {C X A : Type 0} {K : CloudGhosts C} {kind : Kind C X A} {did : X → S
   pub fan_answered : All (λ x. kind.answer x ≢ kind.waiting) left
   fan_answered = all_left (λ x. kind.answer x ≢ kind.waiting) (λ x s is. (r.ended x _ _ s.done).answered (sym (kind.new_answer _ x) ∙ is))
 
-  pub fan_failed : All (λ x. kind.answer x ≡ kind.failed → Rose (count_at K.faults (clouds_in old) (kind.cloud x)) (count_at K.faults (clouds_in new) (kind.cloud x))) left
-  fan_failed = for_entries K.faults 0 (λ x before after. kind.answer x ≡ kind.failed → Rose before after) (λ x s is. (r.ended x _ _ s.done).failed (sym (kind.new_answer _ x) ∙ is))
+  pub fan_failed : All (λ x. kind.answer x ≡ kind.failed → Rose (count_at count (clouds_in old) (kind.cloud x)) (count_at count (clouds_in new) (kind.cloud x))) left
+  fan_failed = for_entries count 0 (λ x before after. kind.answer x ≡ kind.failed → Rose before after) (λ x s is. (r.ended x _ _ s.done).failed (sym (kind.new_answer _ x) ∙ is))
 
-  pub fan_exact : K.counts_exactly → (c : ℕ) → All (λ x. kind.cloud x ≡ c → kind.answer x ≢ kind.failed) left → count_at K.faults (clouds_in new) c ≡ count_at K.faults (clouds_in old) c
-  fan_exact exactly = for_clouds K.faults 0 (λ c before after. All (λ x. kind.cloud x ≡ c → kind.answer x ≢ kind.failed) left → after ≡ before)
+  pub fan_exact : exactly → (c : ℕ) → All (λ x. kind.cloud x ≡ c → kind.answer x ≢ kind.failed) left → count_at count (clouds_in new) c ≡ count_at count (clouds_in old) c
+  fan_exact exact = for_clouds count 0 (λ c before after. All (λ x. kind.cloud x ≡ c → kind.answer x ≢ kind.failed) left → after ≡ before)
       (λ c y none all. refl)
       (λ c x s some all.
       let at : Stands kind.cloud xs c x = entry_back kind.cloud c xs x some in
       let low : at.i < length left = let within : at.i < length xs = at.within in omega (arith, left_length) in
       let of_cloud : kind.cloud (get_or left at.i x) ≡ c = ap kind.cloud (left_at c x at x) ∙ kind.same_cloud _ x ∙ at.of_cloud in
-      (r.ended x _ _ s.done).exact exactly (λ is. all at.i x low of_cloud (ap kind.answer (left_at c x at x) ∙ answer_of c x s at.of_cloud ∙ is)))
+      (r.ended x _ _ s.done).exact exact (λ is. all at.i x low of_cloud (ap kind.answer (left_at c x at x) ∙ answer_of c x s at.of_cloud ∙ is)))
 
-  pub fan_grows : Grows (count_at K.faults (clouds_in old)) (count_at K.faults (clouds_in new))
-  fan_grows = for_clouds K.faults 0 (λ c before after. before ≤ after) (λ c y none. omega arith) (λ c x s some. (r.ended x _ _ s.done).later)
+  pub fan_grows : Grows (count_at count (clouds_in old)) (count_at count (clouds_in new))
+  fan_grows = for_clouds count 0 (λ c before after. before ≤ after) (λ c y none. omega arith) (λ c x s some. (r.ended x _ _ s.done).later)
 
-  pub fan_slips : count_at K.slips (clouds_in new) ≡ count_at K.slips (clouds_in old)
-  fan_slips = λ i c. fan_stays K.slips 0 (λ x s t done. (r.ended x s t done).slips) c i
+  pub fan_others : count_at other (clouds_in new) ≡ count_at other (clouds_in old)
+  fan_others = λ i c. fan_stays other 0 (λ x s t done. (r.ended x s t done).others) c i

@@ -1,14 +1,16 @@
+mod AllDone
 pub mod Counts
 pub mod Decisions
 pub mod Entries
 mod FanGets
-mod FanPuts
 mod FanRounds
+mod FanWrites
 pub mod Fans
 pub mod Images
 mod KeyOrder
 pub mod Keys
 mod NoEntries
+mod OneSeat
 pub mod Rounds
 mod SeatLaws
 pub mod SomeRows

@@ -68,11 +68,12 @@ pub record TellsCounts {A : Type 0} (F : FleetGhosts A) (old new : A) {T : Type 
   pub cause : IfErr result (HasCause F.counts_exactly (F.faults old) (F.faults new))
   pub clean : F.counts_exactly → OnOk result ((c : ℕ) → F.faults new c ≡ F.faults old c)
 
--- the clouds were only looked at: they hold what they held, and no count of failures fell
+-- the clouds were only looked at: they hold what they held, no count of failures fell, and that of deletes and lists stayed
 pub record OnlyLooked {A : Type 0} (F : FleetGhosts A) (old new : A) : Type 0 where
   pub clouds : F.clouds new ≡ F.clouds old
   pub held : F.held new ≡ F.held old
   pub grows : Grows (F.faults old) (F.faults new)
+  pub slips : F.slips new ≡ F.slips old
 
 -- a round of these writes: how each ended, what is left, and what the answer says
 pub record Wrote {A : Type 0} (F : FleetGhosts A) (ps : List Write) (ended : List Job) (old new : A) (result : Result (Unit {0}) RoundFault) : Type 0 where
@@ -84,5 +85,17 @@ pub record Wrote {A : Type 0} (F : FleetGhosts A) (ps : List Write) (ended : Lis
   pub counts : TellsCounts F old new result
   pub clouds : F.clouds new ≡ F.clouds old
   pub grows : Grows (F.faults old) (F.faults new)
+  pub slips : F.slips new ≡ F.slips old
+  pub gets : F.chunk_gets new ≡ F.chunk_gets old
+  pub time : GoesOn F old new
+
+-- a round of these deletes: what is left, and what the counts say
+pub record Erased {A : Type 0} (F : FleetGhosts A) (ps : List Write) (old new : A) : Type 0 where
+  pub keeps : F.tells → Keeps F old new (Image ps (F.held old))
+  -- where deletes are sure and no count of failed deletes rose, all objects are gone
+  pub gone : F.tells → F.sure_deletes → ((c : ℕ) → c < F.clouds old → Rose (F.slips old c) (F.slips new c) → ⊥) → Written ps (F.held old) (F.held new)
+  pub clouds : F.clouds new ≡ F.clouds old
+  pub faults : F.faults new ≡ F.faults old
+  pub grows : Grows (F.slips old) (F.slips new)
   pub gets : F.chunk_gets new ≡ F.chunk_gets old
   pub time : GoesOn F old new

@@ -4,6 +4,7 @@ use Rattle.nc_name.specs.declared.key.Key.{Key}
 use Rattle.nc_name.specs.declared.key.Key.TheVariants.{Meta, Chunk}
 use Rattle.nc_cloud.specs.declared.fleet.Ask.{Ask}
 use Rattle.nc_cloud.specs.declared.fleet.Job.{Job}
+use Rattle.nc_cloud.specs.declared.fleet.Erase.{Erase}
 use Rattle.nc_cloud.specs.declared.fleet.Done.{Done}
 use Rattle.nc_cloud.specs.declared.fleet.Done.TheVariants as done
 use Rattle.nc_cloud.specs.declared.fleet.Answer.{Answer}
@@ -31,6 +32,19 @@ touch j = record { write = write j; ok = is_done j.done }
 
 abbrev pub touches : List Job → List Touch
 touches jobs = map touch jobs
+
+-- a delete is a write of nothing
+abbrev pub erasure : Erase → Write
+erasure e = record { cloud = e.cloud; key = e.key; new = None }
+
+abbrev pub erasures : List Erase → List Write
+erasures erases = map erasure erases
+
+abbrev pub erase_touch : Erase → Touch
+erase_touch e = record { write = erasure e; ok = is_done e.done }
+
+abbrev pub erase_touches : List Erase → List Touch
+erase_touches erases = map erase_touch erases
 
 -- the answer is what is held
 abbrev pub Shows : Answer → ℕ → Option (List ℕ) → Type 0

@@ -3,9 +3,9 @@ ghost use Rattle.std.specs.Thread.{IsSync};
 ghost use Rattle.nc_cloud.specs.Fan.{clouds_of};
 ghost use Rattle.nc_cloud.specs.Seats.{clouds_in, contents_at, count_at};
 
-use crate::cloud::Cloud;
-use crate::fleet::{Answer, Ask, Done, Fleet, Job};
-use crate::seats::{Seat, fan_gets, fan_puts};
+use crate::cloud::{Cloud, CloudError, KeyList};
+use crate::fleet::{Answer, Ask, Done, Erase, Fleet, Job};
+use crate::seats::{Seat, fan_deletes, fan_gets, fan_puts, list_at};
 use nc_name::Memory;
 use std::alloc::Global;
 use std::thread::Threads;
@@ -60,6 +60,8 @@ impl<C: Cloud + Send + Drop, R: Threads + Sync + Drop> Fleet for Fanned<C, R> {
 
     ghost chunk_gets = { λ fleet. count_at C.chunk_gets (clouds_of fleet) };
 
+    ghost sure_deletes = { C.sure_deletes };
+
     ghost now = { λ _. 0 };
 
     fn width(&self) -> usize {
@@ -72,6 +74,14 @@ impl<C: Cloud + Send + Drop, R: Threads + Sync + Drop> Fleet for Fanned<C, R> {
 
     fn put_round(&mut self, jobs: &mut [Job]) {
         fan_puts(&mut self.seats, jobs);
+    }
+
+    fn delete_round(&mut self, erases: &mut [Erase]) {
+        fan_deletes(&mut self.seats, erases);
+    }
+
+    fn list(&mut self, cloud: u8) -> Result<KeyList, CloudError> {
+        list_at(&mut self.seats, cloud as usize)
     }
 
     ghost counts_now = { λ f t told le. absurd told };

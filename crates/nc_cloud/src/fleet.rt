@@ -1,12 +1,15 @@
-ghost use Rattle.std.specs.Prelude.{◌≡◌, ◌≢◌, ◌<◌, ◌≤◌, ℕ, All, AllPairs, map};
+ghost use Rattle.std.specs.Prelude.{◌≡◌, ◌≢◌, ◌<◌, ◌≤◌, ℕ, All, AllPairs, IfOk, IsErrOf, map};
 ghost use Rattle.nc_frame.specs.Frames.{Whole};
 ghost use Rattle.nc_cloud.specs.Contents.{Contents, Rose, Leaves, Grows, nothing};
-ghost use Rattle.nc_cloud.specs.Fleet.{asked, chunks_got, got_count, writes, touches, Answers};
+ghost use Rattle.nc_cloud.specs.Cloud.{AreSorted, Lists};
+ghost use Rattle.nc_cloud.specs.Fleet.{asked, chunks_got, got_count, writes, touches, erasures, erase_touches, Answers};
 ghost use Rattle.nc_cloud.specs.Images.{Image};
 ghost use Rattle.nc_cloud.specs.Time.{Elapses, Stays};
 ghost use Rattle.nc_cloud.specs.declared.fleet.Answer.TheVariants.{Waiting as Unanswered, Failed as NoAnswer};
-ghost use Rattle.nc_cloud.specs.declared.fleet.Done.TheVariants.{Waiting, Failed};
+ghost use Rattle.nc_cloud.specs.declared.fleet.Done.TheVariants.{Waiting, Failed, Memory as NoMemory};
+ghost use Rattle.nc_cloud.specs.declared.cloud.CloudError.TheVariants.{Failed as ListFailed};
 
+use crate::cloud::{CloudError, KeyList};
 use nc_name::{Blob, Key};
 
 /// What a cloud answered to an `Ask`.
@@ -35,12 +38,12 @@ pub struct Ask {
     pub answer: Answer,
 }
 
-/// How a write ended.
+/// How a write or a delete ended.
 #[derive(Clone, Copy, Debug, PartialEq, Eq)]
 pub enum Done {
     /// Not begun yet. No entry stands so after its round.
     Waiting,
-    /// The object is written.
+    /// The object is written, or gone.
     Ok,
     /// The cloud failed; the object may be old, new, gone or torn.
     Failed,
@@ -54,6 +57,14 @@ pub struct Job {
     pub cloud: u8,
     pub key: Key,
     pub bytes: Blob,
+    pub done: Done,
+}
+
+/// A delete of one object, which need not be there.
+#[derive(Clone, Copy, Debug)]
+pub struct Erase {
+    pub cloud: u8,
+    pub key: Key,
     pub done: Done,
 }
 
@@ -82,6 +93,9 @@ pub trait Fleet {
 
     /// How many gets of chunks of a cloud have given bytes.
     ghost chunk_gets: { Self → ℕ → ℕ };
+
+    /// Its rounds of deletes never answer `Memory`.
+    ghost sure_deletes: { Type 0 } = { ⊥ };
 
     /// The fleet says what a stop may leave, and what was held before.
     ghost tells_images: { Type 0 } = { ⊥ };
@@ -133,6 +147,40 @@ pub trait Fleet {
         ensures slips { slips self.new ≡ slips self.old }
         ensures gets { chunk_gets self.new ≡ chunk_gets self.old }
         ensures time { Elapses (now self.old) (now self.new) (image self.old) (image self.new) (Image (writes jobs.old) (held self.old)) }
+        ensures past { tells_images → Stays (now self.old) (past self.old) (past self.new) };
+
+    /// Deletes an object of each of some clouds. How each ended stands in the entries afterwards.
+    fn delete_round(&mut self, erases: &mut [Erase])
+        requires ready { ready }
+        requires below { All (λ e. e.cloud < clouds self.old) erases.old }
+        requires once { AllPairs (λ a b. a.cloud ≢ b.cloud) erases.old }
+        ensures entries { erasures erases.new ≡ erasures erases.old }
+        ensures answered { All (λ e. e.done ≢ Waiting) erases.new }
+        ensures told { tells → Leaves (erase_touches erases.new) (held self.old) (held self.new) }
+        ensures failed { All (λ e. e.done ≡ Failed → Rose (slips self.old e.cloud) (slips self.new e.cloud)) erases.new }
+        ensures exact { counts_exactly → (c : ℕ) → All (λ e. e.cloud ≡ c → e.done ≢ Failed) erases.new → slips self.new c ≡ slips self.old c }
+        ensures sure { sure_deletes → All (λ e. e.done ≢ NoMemory) erases.new }
+        ensures clouds { clouds self.new ≡ clouds self.old }
+        ensures grows { Grows (slips self.old) (slips self.new) }
+        ensures faults { faults self.new ≡ faults self.old }
+        ensures gets { chunk_gets self.new ≡ chunk_gets self.old }
+        ensures time { Elapses (now self.old) (now self.new) (image self.old) (image self.new) (Image (erasures erases.old) (held self.old)) }
+        ensures past { tells_images → Stays (now self.old) (past self.old) (past self.new) };
+
+    /// The keys of all objects of a cloud, sorted by their texts.
+    fn list(&mut self, cloud: u8) -> Result<KeyList, CloudError>
+        requires ready { ready }
+        requires below { cloud < clouds self.old }
+        ensures told { tells → IfOk result (Lists (held self.old cloud)) }
+        ensures sorted { IfOk result AreSorted }
+        ensures failed { IsErrOf result ListFailed → Rose (slips self.old cloud) (slips self.new cloud) }
+        ensures exact { counts_exactly → (c : ℕ) → (c ≡ cloud → IsErrOf result ListFailed → ⊥) → slips self.new c ≡ slips self.old c }
+        ensures clouds { clouds self.new ≡ clouds self.old }
+        ensures held { held self.new ≡ held self.old }
+        ensures grows { Grows (slips self.old) (slips self.new) }
+        ensures faults { faults self.new ≡ faults self.old }
+        ensures gets { chunk_gets self.new ≡ chunk_gets self.old }
+        ensures time { Elapses (now self.old) (now self.new) (image self.old) (image self.new) (λ G. G ≡ held self.old) }
         ensures past { tells_images → Stays (now self.old) (past self.old) (past self.new) };
 
     /// What is held now is an image since each moment up to now.

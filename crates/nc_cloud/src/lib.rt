@@ -3,6 +3,7 @@
 
 mod cloud;
 mod deciding;
+mod erasing;
 mod fan;
 mod fleet;
 mod seats;
@@ -10,6 +11,7 @@ mod sorting;
 
 pub use cloud::{Cloud, CloudError, Got, KeyList};
 pub use deciding::{RoundFault, ask_round, write_round, write_row};
+pub use erasing::erase_row;
 pub use fan::Fanned;
-pub use fleet::{Answer, Ask, Done, Fleet, Job};
+pub use fleet::{Answer, Ask, Done, Erase, Fleet, Job};
 pub use sorting::sorted_keys;

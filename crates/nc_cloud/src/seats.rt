@@ -1,11 +1,13 @@
-ghost use Rattle.std.specs.Prelude.{◌≡◌, ◌<◌, ℕ, map, length, find, nat_eq, option_copied, slice_index_or, IfOk, AllPairs, All, ◌≢◌};
+ghost use Rattle.std.specs.Prelude.{◌≡◌, ◌<◌, ℕ, map, length, find, nat_eq, option_copied, slice_index_or, IfOk, IsErrOf, AllPairs, All, ◌≢◌};
 ghost use Rattle.nc_frame.specs.Frames.{Whole};
 ghost use Rattle.nc_cloud.specs.Contents.{Grows, Leaves, Rose};
-ghost use Rattle.nc_cloud.specs.Fleet.{asked, Answers, chunks_got, got_count, writes, touches};
-ghost use Rattle.nc_cloud.specs.Seats.{contents_at, count_at, answer_from, AllServed, ask_at, clouds_in, done_from, job_at, collected_ask, collected_job, DidGet, DidPut, Serves};
+ghost use Rattle.nc_cloud.specs.Cloud.{AreSorted, Lists};
+ghost use Rattle.nc_cloud.specs.declared.cloud.CloudError.TheVariants.{Failed};
+ghost use Rattle.nc_cloud.specs.Fleet.{asked, Answers, chunks_got, got_count, writes, touches, erasures, erase_touches};
+ghost use Rattle.nc_cloud.specs.Seats.{contents_at, count_at, answer_from, AllServed, ask_at, clouds_in, done_from, erase_at, job_at, collected_ask, collected_erase, collected_job, DidErase, DidGet, DidPut, Serves};
 
-use crate::cloud::{Cloud, CloudError, Got};
-use crate::fleet::{Answer, Ask, Done, Job};
+use crate::cloud::{Cloud, CloudError, Got, KeyList};
+use crate::fleet::{Answer, Ask, Done, Erase, Job};
 use nc_name::Memory;
 use std::alloc::Global;
 use std::mem;
@@ -32,6 +34,13 @@ fn job_of(jobs: &[Job], cloud: usize) -> Option<&Job>
     jobs.iter().find(|j| j.cloud as usize == cloud)
 }
 
+/// The delete of a cloud.
+fn erase_of(erases: &[Erase], cloud: usize) -> Option<&Erase>
+    ensures { option_copied result ≡ erase_at erases.now cloud }
+{
+    erases.iter().find(|e| e.cloud as usize == cloud)
+}
+
 fn answer_by(got: Result<Got, CloudError>) -> Answer
     ensures { result ≡ answer_from got }
 {
@@ -44,10 +53,10 @@ fn answer_by(got: Result<Got, CloudError>) -> Answer
     }
 }
 
-fn done_by(put: Result<(), CloudError>) -> Done
-    ensures { result ≡ done_from put }
+fn done_by(ended: Result<(), CloudError>) -> Done
+    ensures { result ≡ done_from ended }
 {
-    match put {
+    match ended {
         Ok(()) => Done::Ok,
         Err(CloudError::Failed) => Done::Failed,
         Err(CloudError::Memory) => Done::Memory,
@@ -79,6 +88,18 @@ fn serve_put<C: Cloud>(cloud: usize, seat: &mut Seat<C>, jobs: &[Job])
     }
 }
 
+/// Does the delete of this cloud, where there is one.
+fn serve_erase<C: Cloud>(cloud: usize, seat: &mut Seat<C>, erases: &[Erase])
+    ensures { Serves (DidErase C.Cloud) (erase_at erases.now cloud) seat.old seat.new }
+{
+    match erase_of(erases, cloud) {
+        None => {}
+        Some(erase) => {
+            seat.done = done_by(seat.cloud.delete(&erase.key));
+        }
+    }
+}
+
 /// Each cloud serves its ask.
 fn serve_gets<C: Cloud>(seats: &mut [Seat<C>], asks: &[Ask])
     ensures { AllServed (λ c. Serves (DidGet C.Cloud) (ask_at asks.now c)) seats.old seats.new }
@@ -95,6 +116,15 @@ fn serve_puts<C: Cloud>(seats: &mut [Seat<C>], jobs: &[Job])
 {
     for cloud in 0..seats.len() {
         serve_put(cloud, &mut seats[cloud], jobs);
+    }
+}
+
+/// Each cloud does its delete.
+fn serve_erases<C: Cloud>(seats: &mut [Seat<C>], erases: &[Erase])
+    ensures { AllServed (λ c. Serves (DidErase C.Cloud) (erase_at erases.now c)) seats.old seats.new }
+{
+    for cloud in 0..seats.len() {
+        serve_erase(cloud, &mut seats[cloud], erases);
     }
 }
 
@@ -138,6 +168,16 @@ fn collect_puts<C>(seats: &[Seat<C>], jobs: &mut [Job])
     }
 }
 
+/// Copies the answers to the deletes.
+fn collect_erases<C>(seats: &[Seat<C>], erases: &mut [Erase])
+    requires { All (λ e. e.cloud < length seats.now) erases.old }
+    ensures { erases.new ≡ map (collected_erase seats.now) erases.old }
+{
+    for erase in erases.iter_mut() {
+        erase.done = done_at(seats, erase.cloud as usize);
+    }
+}
+
 /// A round of gets: each cloud serves its ask, and then the answers are moved to the asks.
 pub(crate) fn fan_gets<C: Cloud>(seats: &mut [Seat<C>], asks: &mut [Ask])
     requires below { All (λ a. a.cloud < length seats.old) asks.old }
@@ -172,4 +212,37 @@ pub(crate) fn fan_puts<C: Cloud>(seats: &mut [Seat<C>], jobs: &mut [Job])
 {
     serve_puts(seats, jobs);
     collect_puts(seats, jobs);
+}
+
+/// A round of deletes: each cloud does its delete, and then the answers are copied to the entries.
+pub(crate) fn fan_deletes<C: Cloud>(seats: &mut [Seat<C>], erases: &mut [Erase])
+    requires below { All (λ e. e.cloud < length seats.old) erases.old }
+    requires once { AllPairs (λ a b. a.cloud ≢ b.cloud) erases.old }
+    ensures entries { erasures erases.new ≡ erasures erases.old }
+    ensures answered { All (λ e. e.done ≢ Done.Waiting) erases.new }
+    ensures told { C.tells → Leaves (erase_touches erases.new) (contents_at C.held (clouds_in seats.old)) (contents_at C.held (clouds_in seats.new)) }
+    ensures failed { All (λ e. e.done ≡ Done.Failed → Rose (count_at C.slips (clouds_in seats.old) e.cloud) (count_at C.slips (clouds_in seats.new) e.cloud)) erases.new }
+    ensures exact { C.counts_exactly → (c : ℕ) → All (λ e. e.cloud ≡ c → e.done ≢ Done.Failed) erases.new → count_at C.slips (clouds_in seats.new) c ≡ count_at C.slips (clouds_in seats.old) c }
+    ensures sure { C.sure_deletes → All (λ e. e.done ≢ Done.Memory) erases.new }
+    ensures grows { Grows (count_at C.slips (clouds_in seats.old)) (count_at C.slips (clouds_in seats.new)) }
+    ensures faults { count_at C.faults (clouds_in seats.new) ≡ count_at C.faults (clouds_in seats.old) }
+    ensures gets { count_at C.chunk_gets (clouds_in seats.new) ≡ count_at C.chunk_gets (clouds_in seats.old) }
+{
+    serve_erases(seats, erases);
+    collect_erases(seats, erases);
+}
+
+/// The keys of all objects of one cloud.
+pub(crate) fn list_at<C: Cloud>(seats: &mut [Seat<C>], cloud: usize) -> Result<KeyList, CloudError>
+    requires { cloud < length seats.old }
+    ensures told { C.tells → IfOk result (Lists (contents_at C.held (clouds_in seats.old) cloud)) }
+    ensures sorted { IfOk result AreSorted }
+    ensures failed { IsErrOf result Failed → Rose (count_at C.slips (clouds_in seats.old) cloud) (count_at C.slips (clouds_in seats.new) cloud) }
+    ensures exact { C.counts_exactly → (c : ℕ) → (c ≡ cloud → IsErrOf result Failed → ⊥) → count_at C.slips (clouds_in seats.new) c ≡ count_at C.slips (clouds_in seats.old) c }
+    ensures held { contents_at C.held (clouds_in seats.new) ≡ contents_at C.held (clouds_in seats.old) }
+    ensures grows { Grows (count_at C.slips (clouds_in seats.old)) (count_at C.slips (clouds_in seats.new)) }
+    ensures faults { count_at C.faults (clouds_in seats.new) ≡ count_at C.faults (clouds_in seats.old) }
+    ensures gets { count_at C.chunk_gets (clouds_in seats.new) ≡ count_at C.chunk_gets (clouds_in seats.old) }
+{
+    seats[cloud].cloud.list()
 }

@@ -30,6 +30,7 @@ returns-clause-looked g c = record {
   clouds = c.get_round.ensures.clouds;
   held = c.get_round.ensures.held;
   grows = c.get_round.ensures.grows;
+  slips = c.get_round.ensures.slips;
 }
 
 pub returns-clause-stops : goal.returns-clause-stops

@@ -46,6 +46,7 @@ returns g c =
         };
         clouds = c.put_round.ensures.clouds;
         grows = c.put_round.ensures.grows;
+        slips = c.put_round.ensures.slips;
         gets = c.put_round.ensures.gets;
         time = record { later = c.put_round.ensures.time.later; stays = c.put_round.ensures.past };
       };

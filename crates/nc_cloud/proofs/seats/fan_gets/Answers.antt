@@ -1,5 +1,5 @@
 use Rattle.nc_cloud.proofs.FanGets.{GetRound, fan_asked, fan_gets, fan_held, fan_told}
-use Rattle.nc_cloud.proofs.FanRounds.{fan_answered, fan_exact, fan_failed, fan_grows, fan_slips}
+use Rattle.nc_cloud.proofs.FanRounds.{fan_answered, fan_exact, fan_failed, fan_grows, fan_others}
 use Rattle.nc_cloud.proofs.seats.fan_gets.Given.{Over}
 use Rattle.nc_cloud.proofs.seats.fan_gets.Goals as goal
 
@@ -35,7 +35,7 @@ pub returns-clause-grows : goal.returns-clause-grows
 returns-clause-grows g c = fan_grows (round g c)
 
 pub returns-clause-slips : goal.returns-clause-slips
-returns-clause-slips g c = fan_slips (round g c)
+returns-clause-slips g c = fan_others (round g c)
 
 pub returns-clause-gets : goal.returns-clause-gets
 returns-clause-gets g c = fan_gets (round g c)
