@@ -1,5 +1,7 @@
+mod Counting
 mod Cuts
 mod Fates
+mod Listing
 mod Numbered
 pub mod PastLaws
 mod RecordLaws
@@ -9,3 +11,4 @@ mod SortLaws
 mod Stopping
 mod StoreLaws
 mod Wholes
+mod WriteLaws

@@ -26,6 +26,16 @@ module _ {A B : Type 0} (g : ℕ → A → B) where
       let next : suc i + 1 ≡ suc (i + 1) = omega arith in
       ap (λ k. numbered g n (take k (x ∷ xs))) next ∙ ap (λ ys. g (n + 1) x ∷ ys) (numbered_more (n + 1) xs i d (omega arith) ∙ ap (λ k. numbered g (n + 1) (take i xs) ++ g k (get_or xs i d) ∷ []) same)
 
+  -- one more of what f makes of each
+  pub numbered_map_more : {C : Type 0} (f : C → A) (n : ℕ) (xs : List C) (i : ℕ) (d : C) → i < length xs → numbered g n (map f (take (i + 1) xs)) ≡ numbered g n (map f (take i xs)) ++ g (n + i + 1) (f (get_or xs i d)) ∷ []
+  numbered_map_more f n [] i d l = absurd (omega arith)
+  numbered_map_more f n (x ∷ xs) zero d l = let same : n + 1 ≡ n + 0 + 1 = omega arith in ap (λ k. g k (f x) ∷ []) same
+  numbered_map_more f n (x ∷ xs) (suc i) d l =
+      let same : n + 1 + i + 1 ≡ n + suc i + 1 = omega arith in
+      let next : suc i + 1 ≡ suc (i + 1) = omega arith in
+      ap (λ k. numbered g n (map f (take k (x ∷ xs)))) next
+      ∙ ap (λ ys. g (n + 1) (f x) ∷ ys) (numbered_map_more f (n + 1) xs i d (omega arith) ∙ ap (λ k. numbered g (n + 1) (map f (take i xs)) ++ g k (f (get_or xs i d)) ∷ []) same)
+
   -- what no number changes
   pub map-numbered : {C : Type 0} (p : B → C) (q : A → C) → ((k : ℕ) (x : A) → p (g k x) ≡ q x) → (n : ℕ) (xs : List A) → map p (numbered g n xs) ≡ map q xs
   map-numbered p q same n [] = refl

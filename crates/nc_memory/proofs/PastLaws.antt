@@ -1,22 +1,18 @@
 -- How the record of a memory fleet goes on: what it told before stays, and what a round adds.
-use Rattle.std.proofs.Common.{◌≡◌, ℕ, zero, suc, ◌≤◌, ◌⊎◌, List, [], ◌∷◌, ◌++◌, map, length, take, drop, length-append, refl, sym, ap, subst, arith, All, inl, inr}
+use Rattle.std.proofs.Common.{◌≡◌, ℕ, zero, suc, ◌≤◌, ◌⊎◌, Bool, List, [], ◌∷◌, ◌++◌, map, length, take, drop, length-append, refl, sym, ap, subst, arith, inl, inr}
 use Rattle.std.proofs.lemmas.List.{take-append-le}
-use Rattle.nc_frame.specs.Frames.{Whole}
-use Rattle.nc_cloud.specs.declared.fleet.Job.{Job}
-use Rattle.nc_cloud.specs.Contents.{Contents, Write, nothing}
-use Rattle.nc_cloud.specs.Fleet.{write, writes}
+use Rattle.nc_cloud.specs.Contents.{Contents, nothing}
 use Rattle.nc_cloud.specs.Images.{Image}
 use Rattle.nc_cloud.specs.Time.{Elapses, Stays}
-use Rattle.nc_cloud.proofs.Images.{image_none, leaves_image}
+use Rattle.nc_cloud.proofs.Images.{image_none}
 use Rattle.nc_memory.specs.declared.record.Event.{Event}
-use Rattle.nc_memory.specs.declared.record.Event.TheVariants.{Gets, Puts, Planted}
+use Rattle.nc_memory.specs.declared.record.Event.TheVariants.{Gets, Writes, Listed, Planted}
 use Rattle.nc_memory.specs.declared.record.Look.{Look}
-use Rattle.nc_memory.specs.declared.record.Refusal.{Refusal}
-use Rattle.nc_memory.specs.Record.{contents_after, done_jobs, step_at, step_of, step_value, steps_of}
-use Rattle.nc_memory.specs.Memory.{gets_event, puts_event}
+use Rattle.nc_memory.specs.declared.record.Step.{Step}
+use Rattle.nc_memory.specs.Record.{contents_after, WholeSteps}
+use Rattle.nc_memory.specs.Memory.{gets_event, writes_event}
 use Rattle.nc_memory.specs.Moments.{ImageIn, step_write}
-use Rattle.nc_memory.proofs.Numbered.{map-numbered}
-use Rattle.nc_memory.proofs.RecordLaws.{leaves_puts, places_same}
+use Rattle.nc_memory.proofs.WriteLaws.{steps_image}
 
 -- an image of a longer record was one before, or is one of what came after
 pub image_more : (log more : List Event) (t : ℕ) (F G : Contents) → t ≤ length log → ImageIn (drop t (log ++ more)) (contents_after (take t (log ++ more)) F) G
@@ -37,7 +33,8 @@ image_more (e ∷ es) more (suc t) F G le is = image_more es more t (contents_af
 pub first_one : (es : List Event) (F : Contents) → ImageIn es F F
 first_one [] F = refl
 first_one (Gets looks ∷ es) F = inl refl
-first_one (Puts steps ∷ es) F = inl (image_none (map step_write steps) F)
+first_one (Writes steps ∷ es) F = inl (image_none (map step_write steps) F)
+first_one (Listed cloud failed ∷ es) F = inl refl
 first_one (Planted cloud key bytes ∷ es) F = inl refl
 
 -- and what was an image stays one
@@ -73,14 +70,15 @@ pub gets_only : (looks : List Look) (F G : Contents) → ImageIn (gets_event loo
 gets_only [] F G is = is
 gets_only (look ∷ looks) F G is = elim is [ inl here ↦ here | inr after ↦ after ]
 
--- the images of a round of puts
-pub puts_only : (refusals : List Refusal) (n : ℕ) (jobs : List Job) (F G : Contents) → All (λ j. Whole j.bytes) jobs → ImageIn (puts_event (steps_of refusals n jobs)) F G → Image (writes jobs) F G
-puts_only refusals n [] F G whole is = subst (λ (H : Contents). Image [] F H) (sym is) (image_none [] F)
-puts_only refusals n (j ∷ jobs) F G whole is =
-    let left : Contents = λ c key. step_value (step_at (steps_of refusals n (j ∷ jobs)) c) key (F c key) in
-    let end : Image (writes (j ∷ jobs)) F left =
-    subst (λ (ps : List Write). Image ps F left) (places_same refusals n (j ∷ jobs)) (leaves_image (done_jobs refusals n (j ∷ jobs)) F left (leaves_puts refusals n (j ∷ jobs) F whole)) in
+-- and of a list
+pub list_only : (cloud : ℕ) (failed : Bool) (F G : Contents) → ImageIn (Listed cloud failed ∷ []) F G → G ≡ F
+list_only cloud failed F G is = elim is [ inl here ↦ here | inr after ↦ after ]
+
+-- the images of a round of writes
+pub writes_only : (steps : List Step) (F G : Contents) → ∥ WholeSteps steps ∥₁ → ImageIn (writes_event steps) F G → Image (map step_write steps) F G
+writes_only [] F G whole is = subst (λ (H : Contents). Image [] F H) (sym is) (image_none [] F)
+writes_only (s ∷ steps) F G whole is =
     elim is [
-      | inl here ↦ subst (λ (ps : List Write). Image ps F G) (map-numbered (step_of refusals) step_write write (λ k x. refl) n (j ∷ jobs)) here
-      | inr after ↦ subst (λ (H : Contents). Image (writes (j ∷ jobs)) F H) (sym after) end
+      | inl here ↦ here
+      | inr after ↦ subst (λ (H : Contents). Image (map step_write (s ∷ steps)) F H) (sym after) (steps_image (s ∷ steps) F whole)
     ]

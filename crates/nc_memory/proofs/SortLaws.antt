@@ -1,4 +1,4 @@
--- The keys of a memory cloud's objects.
+-- The keys of objects.
 use Rattle.std.proofs.Common.{◌≡◌, ℕ, zero, suc, ◌<◌, Bool, true, false, cond, Some, List, [], ◌∷◌, map, length, get_or, refl, sym, ap, ◌∙◌, subst, arith, Result, Ok, Err}
 use Rattle.std.specs.Option.{option_map, IsSome, is_some}
 use Rattle.std.specs.List.{find, Contains}
@@ -8,7 +8,7 @@ use Rattle.nc_cloud.specs.Cloud.{AreSorted, Lists}
 use Rattle.nc_cloud.proofs.Entries.{some_of}
 use Rattle.nc_name.specs.declared.key.Key.{Key}
 use Rattle.nc_memory.specs.declared.store.Object.{Object}
-use Rattle.nc_cloud.specs.Contents.{key_eq}
+use Rattle.nc_cloud.specs.Contents.{Store, key_eq}
 use Rattle.nc_memory.specs.Store.{stored}
 use Rattle.nc_memory.proofs.StoreLaws.{same_key}
 use Rattle.nc_cloud.proofs.Keys.{key_eq-Decides}
@@ -44,12 +44,14 @@ key_stored objects q c =
     let o : Object = some_of objects (omega (arith, here)) in
     subst (λ (k : Key). IsSome (stored objects k)) (sym (get_or-map (λ (o : Object). o.key) objects c.0 o q here) ∙ c.2) (member_stored objects c.0 o here)
 
--- a sorted list of the objects' keys lists what is stored
-pub listed : {E : Type 0} (objects : List Object) (keys : List Key) → keys ≡ map (λ o. o.key) objects → (r : Result (List Key) E)
+-- a sorted list of the keys that hold something lists what is held
+pub listed : {E : Type 0} (held : Store) (keys : List Key) → ((q : Key) → IsSome (held q) → Contains keys q) → ((q : Key) → Contains keys q → IsSome (held q)) → (r : Result (List Key) E)
+    → IfOk r AreSorted → IfOk r (λ list. (q : Key) → Contains keys q → Contains list q) → IfOk r (λ list. (q : Key) → Contains list q → Contains keys q) → IfOk r (Lists held)
+listed held keys named holds (Ok list) sorted all only = record { all = λ q some. all q (named q some); only = λ q has. holds q (only q has); sorted = sorted }
+listed held keys named holds (Err e) sorted all only = tt
+
+-- so does one of the keys of objects
+pub objects_listed : {E : Type 0} (objects : List Object) (keys : List Key) → keys ≡ map (λ o. o.key) objects → (r : Result (List Key) E)
     → IfOk r AreSorted → IfOk r (λ list. (q : Key) → Contains keys q → Contains list q) → IfOk r (λ list. (q : Key) → Contains list q → Contains keys q) → IfOk r (Lists (stored objects))
-listed objects keys is (Ok list) sorted all only = record {
-  all = λ q some. all q (subst (λ (ks : List Key). Contains ks q) (sym is) (key_listed objects q some));
-  only = λ q has. key_stored objects q (subst (λ (ks : List Key). Contains ks q) is (only q has));
-  sorted = sorted;
-}
-listed objects keys is (Err e) sorted all only = tt
+objects_listed objects keys is =
+    listed (stored objects) keys (λ q some. subst (λ (ks : List Key). Contains ks q) (sym is) (key_listed objects q some)) (λ q has. key_stored objects q (subst (λ (ks : List Key). Contains ks q) is has))

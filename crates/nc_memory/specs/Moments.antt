@@ -1,22 +1,23 @@
 -- The moments of a memory fleet, and what a stop at one of them may leave: both follow from its record.
-use Rattle.std.specs.Prelude.{ℕ, ◌≡◌, ◌⊎◌, Some, List, [], ◌∷◌, map, length, take, drop}
+use Rattle.std.specs.Prelude.{ℕ, ◌≡◌, ◌⊎◌, List, [], ◌∷◌, map, length, take, drop}
 use Rattle.nc_memory.specs.declared.record.Step.{Step}
 use Rattle.nc_memory.specs.declared.record.Event.{Event}
-use Rattle.nc_memory.specs.declared.record.Event.TheVariants.{Gets, Puts, Planted}
+use Rattle.nc_memory.specs.declared.record.Event.TheVariants.{Gets, Writes, Listed, Planted}
 use Rattle.nc_memory.specs.declared.memory.MemFleet.{MemFleet}
 use Rattle.nc_cloud.specs.Contents.{Contents, Write, nothing}
 use Rattle.nc_cloud.specs.Images.{Image}
 use Rattle.nc_memory.specs.Record.{contents_after}
 use Rattle.nc_memory.specs.Memory.{log_of}
 
--- a put as an entry of a round
+-- a step as an entry of a round
 abbrev pub step_write : Step → Write
-step_write s = record { cloud = s.cloud; key = s.key; new = Some s.bytes }
+step_write s = record { cloud = s.cloud; key = s.key; new = s.new }
 
 -- contents that a stop in an event may leave
 abbrev pub EventImage : Event → Contents → Contents → Type 0
 EventImage (Gets looks) F G = G ≡ F
-EventImage (Puts steps) F G = Image (map step_write steps) F G
+EventImage (Writes steps) F G = Image (map step_write steps) F G
+EventImage (Listed cloud failed) F G = G ≡ F
 EventImage (Planted cloud key bytes) F G = G ≡ F
 
 -- contents that a stop in one of these events may leave, or after the last

@@ -1,8 +1,9 @@
 -- What a memory fleet records, and what follows of what its clouds hold and how often they failed.
-use Rattle.std.specs.Prelude.{ℕ, ◌+◌, ◌-◌, ◌^◌, ◌&&◌, Option, None, Some, List, [], ◌∷◌, length, take, min, nat_eq, nat_le, if◌then◌else◌, find, option_map, is_some}
+use Rattle.std.specs.Prelude.{ℕ, ◌+◌, ◌-◌, ◌^◌, ◌&&◌, Option, None, Some, List, [], ◌∷◌, length, take, min, nat_eq, nat_le, if◌then◌else◌, find, option_map, is_some, is_none, IfSome}
 use Rattle.nc_name.specs.declared.key.Key.{Key}
 use Rattle.nc_frame.specs.Frames.{Whole}
 use Rattle.nc_cloud.specs.declared.fleet.Ask.{Ask}
+use Rattle.nc_cloud.specs.declared.fleet.Erase.{Erase}
 use Rattle.nc_cloud.specs.declared.fleet.Job.{Job}
 use Rattle.nc_cloud.specs.declared.fleet.Done.{Done}
 use Rattle.nc_cloud.specs.declared.fleet.Done.TheVariants as done
@@ -14,8 +15,8 @@ use Rattle.nc_memory.specs.declared.record.Refusal.{Refusal}
 use Rattle.nc_memory.specs.declared.record.Look.{Look}
 use Rattle.nc_memory.specs.declared.record.Step.{Step}
 use Rattle.nc_memory.specs.declared.record.Event.{Event}
-use Rattle.nc_memory.specs.declared.record.Event.TheVariants.{Gets, Puts, Planted}
-use Rattle.nc_cloud.specs.Contents.{Contents, key_eq}
+use Rattle.nc_memory.specs.declared.record.Event.TheVariants.{Gets, Writes, Listed, Planted}
+use Rattle.nc_cloud.specs.Contents.{Contents, Write, key_eq}
 use Rattle.nc_cloud.specs.Fleet.{is_bytes, is_chunk, is_failed, tally}
 
 -- ---- entries
@@ -44,24 +45,25 @@ answer_of None most (Some bytes) = if nat_le (length bytes) most then Bytes byte
 abbrev pub look_of : Ask → Look
 look_of a = record { cloud = a.cloud; failed = is_failed a.answer; gave_chunk = is_chunk a.key && is_bytes a.answer }
 
-abbrev pub step_by : Option Torn → Job → Step
-step_by refused j = record { cloud = j.cloud; key = j.key; bytes = j.bytes; failed = is_some refused; fate = refused }
+abbrev pub step_by : Option Torn → Write → Step
+step_by refused p = record { cloud = p.cloud; key = p.key; new = p.new; failed = is_some refused; fate = refused }
 
-abbrev pub step_of : List Refusal → ℕ → Job → Step
-step_of refusals k j = step_by (refused_at refusals k) j
+abbrev pub step_of : List Refusal → ℕ → Write → Step
+step_of refusals k p = step_by (refused_at refusals k) p
 
--- the puts of a round, where n entries came before it
-abbrev pub steps_of : List Refusal → ℕ → List Job → List Step
-steps_of refusals n jobs = numbered (step_of refusals) n jobs
+-- the writes of a round, where n entries came before it
+abbrev pub steps_of : List Refusal → ℕ → List Write → List Step
+steps_of refusals n ps = numbered (step_of refusals) n ps
 
 -- what was put in rounds was whole
 abbrev pub WholeSteps : List Step → Type 0
 WholeSteps [] = Unit {0}
-WholeSteps (s ∷ ss) = Whole s.bytes × WholeSteps ss
+WholeSteps (s ∷ ss) = IfSome s.new Whole × WholeSteps ss
 
 abbrev pub WholeEvent : Event → Type 0
 WholeEvent (Gets looks) = Unit {0}
-WholeEvent (Puts steps) = WholeSteps steps
+WholeEvent (Writes steps) = WholeSteps steps
+WholeEvent (Listed cloud failed) = Unit {0}
 WholeEvent (Planted cloud key bytes) = Unit {0}
 
 abbrev pub WholeLog : List Event → Type 0
@@ -70,26 +72,32 @@ WholeLog (e ∷ es) = WholeEvent e × WholeLog es
 
 -- ---- what a cloud holds
 
--- the put of a cloud
+-- the write of a cloud
 abbrev pub step_at : List Step → ℕ → Option Step
 step_at steps c = find (λ s. nat_eq s.cloud c) steps
 
--- what a put leaves of an object
-abbrev pub left : Option Torn → List ℕ → Option (List ℕ) → Option (List ℕ)
-left None bytes old = Some bytes
-left (Some Old) bytes old = old
-left (Some New) bytes old = Some bytes
-left (Some Gone) bytes old = None
-left (Some Broken) bytes old = Some (take (length bytes - 1) bytes)
+-- what a broken write leaves: of a put the bytes without the last, and of a delete an empty object where there was one
+abbrev pub broken : Option (List ℕ) → Option (List ℕ) → Option (List ℕ)
+broken (Some bytes) old = Some (take (length bytes - 1) bytes)
+broken None old = option_map (λ bytes. []) old
+
+-- what a write leaves of an object
+abbrev pub left : Option Torn → Option (List ℕ) → Option (List ℕ) → Option (List ℕ)
+left None new old = new
+left (Some Old) new old = old
+left (Some New) new old = new
+left (Some Gone) new old = None
+left (Some Broken) new old = broken new old
 
 abbrev pub step_value : Option Step → Key → Option (List ℕ) → Option (List ℕ)
 step_value None key old = old
-step_value (Some s) key old = if key_eq s.key key then left s.fate s.bytes old else old
+step_value (Some s) key old = if key_eq s.key key then left s.fate s.new old else old
 
 -- what an event makes of what a cloud holds under a key
 abbrev pub value_after : Event → ℕ → Key → Option (List ℕ) → Option (List ℕ)
 value_after (Gets looks) c key old = old
-value_after (Puts steps) c key old = step_value (step_at steps c) key old
+value_after (Writes steps) c key old = step_value (step_at steps c) key old
+value_after (Listed cloud failed) c key old = old
 value_after (Planted cloud place bytes) c key old = if nat_eq cloud c && key_eq place key then Some bytes else old
 
 -- and what several make of it, the first of them first
@@ -111,42 +119,61 @@ answered_ask refusals log k a = record a { answer = answer_of (refused_at refusa
 abbrev pub answered_asks : List Refusal → ℕ → List Event → List Ask → List Ask
 answered_asks refusals n log asks = numbered (answered_ask refusals log) n asks
 
--- a put with its answer
-abbrev pub done_job : List Refusal → ℕ → Job → Job
-done_job refusals k j = record j { done = done_of (refused_at refusals k) }
+-- a put and a delete that ended so
+abbrev pub end_job : Done → Job → Job
+end_job d j = record j { done = d }
 
--- the puts of a round with their answers
-abbrev pub done_jobs : List Refusal → ℕ → List Job → List Job
-done_jobs refusals n jobs = numbered (done_job refusals) n jobs
+abbrev pub end_erase : Done → Erase → Erase
+end_erase d e = record e { done = d }
 
--- entries of a round for which no memory was found
+-- the entry of a number with its answer
+abbrev pub ended_at : {X : Type 0} → (Done → X → X) → List Refusal → ℕ → X → X
+ended_at end refusals k x = end (done_of (refused_at refusals k)) x
+
+-- the puts or deletes of a round with their answers, where n entries came before it
+abbrev pub ended_by : {X : Type 0} → (Done → X → X) → List Refusal → ℕ → List X → List X
+ended_by end refusals n xs = numbered (ended_at end refusals) n xs
+
+-- a get for which no memory was found
 abbrev pub starved_ask : Ask → Ask
 starved_ask a = record a { answer = Memory }
 
-abbrev pub starved_job : Job → Job
-starved_job j = record j { done = done.Memory }
-
 -- ---- counts
 
--- how many entries of an event failed on a cloud
+-- a count over events, of a cloud
+abbrev pub over : (Event → ℕ → ℕ) → List Event → ℕ → ℕ
+over count [] c = 0
+over count (e ∷ es) c = count e c + over count es c
+
+-- how many gets and puts of an event failed on a cloud
 abbrev pub failed_in : Event → ℕ → ℕ
 failed_in (Gets looks) c = tally (λ l. nat_eq l.cloud c && l.failed) looks
-failed_in (Puts steps) c = tally (λ s. nat_eq s.cloud c && s.failed) steps
+failed_in (Writes steps) c = tally (λ s. nat_eq s.cloud c && (s.failed && is_some s.new)) steps
+failed_in (Listed cloud failed) c = 0
 failed_in (Planted cloud key bytes) c = 0
 
 abbrev pub failures : List Event → ℕ → ℕ
-failures [] c = 0
-failures (e ∷ es) c = failed_in e c + failures es c
+failures = over failed_in
+
+-- how many deletes and lists of an event failed on a cloud
+abbrev pub slipped_in : Event → ℕ → ℕ
+slipped_in (Gets looks) c = 0
+slipped_in (Writes steps) c = tally (λ s. nat_eq s.cloud c && (s.failed && is_none s.new)) steps
+slipped_in (Listed cloud failed) c = if nat_eq cloud c && failed then 1 else 0
+slipped_in (Planted cloud key bytes) c = 0
+
+abbrev pub slipped : List Event → ℕ → ℕ
+slipped = over slipped_in
 
 -- how many gets of an event gave the bytes of a chunk
 abbrev pub given_in : Event → ℕ → ℕ
 given_in (Gets looks) c = tally (λ l. nat_eq l.cloud c && l.gave_chunk) looks
-given_in (Puts steps) c = 0
+given_in (Writes steps) c = 0
+given_in (Listed cloud failed) c = 0
 given_in (Planted cloud key bytes) c = 0
 
 abbrev pub gifts : List Event → ℕ → ℕ
-gifts [] c = 0
-gifts (e ∷ es) c = given_in e c + gifts es c
+gifts = over given_in
 
 -- a count of 64 bits stays at its end
 abbrev pub counted : ℕ → ℕ

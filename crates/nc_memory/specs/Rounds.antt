@@ -1,12 +1,14 @@
 -- The rounds of a record.
 use Rattle.std.specs.Prelude.{ℕ, ◌+◌, ◌-◌, Bool, true, false, ◌&&◌, Option, None, Some, List, [], ◌∷◌, length, nat_eq, if◌then◌else◌, slice_get}
 use Rattle.nc_memory.specs.declared.record.Event.{Event}
-use Rattle.nc_memory.specs.declared.record.Event.TheVariants.{Gets, Puts, Planted}
+use Rattle.nc_memory.specs.declared.record.Event.TheVariants.{Gets, Writes, Listed, Planted}
 use Rattle.nc_cloud.specs.Fleet.{tally}
 
+-- a list is no round, and yet an entry
 abbrev pub is_round : Event → Bool
 is_round (Gets looks) = true
-is_round (Puts steps) = true
+is_round (Writes steps) = true
+is_round (Listed cloud failed) = false
 is_round (Planted cloud key bytes) = false
 
 -- how many rounds there were
@@ -20,7 +22,8 @@ round_place (e ∷ es) n = if is_round e && nat_eq n 0 then 0 else round_place e
 
 abbrev pub entries_in : Event → ℕ
 entries_in (Gets looks) = length looks
-entries_in (Puts steps) = length steps
+entries_in (Writes steps) = length steps
+entries_in (Listed cloud failed) = 1
 entries_in (Planted cloud key bytes) = 0
 
 -- how many entries these events have

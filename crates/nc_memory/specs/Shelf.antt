@@ -1,6 +1,7 @@
 -- The objects of all clouds under their sites.
-use Rattle.std.specs.Prelude.{ℕ, ◌&&◌, Option, List, nat_eq, if◌then◌else◌}
+use Rattle.std.specs.Prelude.{ℕ, ◌&&◌, Option, List, [], ◌∷◌, nat_eq, if◌then◌else◌}
 use Rattle.std.specs.BTreeMap.{BTreeMap, get}
+use Rattle.nc_name.specs.declared.key.Key.{Key}
 use Rattle.nc_cloud.specs.Contents.{Contents, key_eq}
 use Rattle.nc_memory.specs.declared.record.Step.{Step}
 use Rattle.nc_memory.specs.declared.site.Site.{Site}
@@ -15,6 +16,11 @@ shelved shelf c key = get site_cmp shelf (record { cloud = c; key = key })
 abbrev pub set_at : Site → Option (List ℕ) → Contents → Contents
 set_at site new F c key = if nat_eq site.cloud c && key_eq site.key key then new else F c key
 
--- contents after the puts of a round
+-- contents after the writes of a round
 abbrev pub after_steps : List Step → Contents → Contents
 after_steps steps F c key = step_value (step_at steps c) key (F c key)
+
+-- the keys of those sites that are of a cloud
+abbrev pub keys_at : ℕ → List Site → List Key
+keys_at c [] = []
+keys_at c (s ∷ sites) = if nat_eq s.cloud c then s.key ∷ keys_at c sites else keys_at c sites

@@ -1,5 +1,5 @@
 -- The objects of a memory cloud.
-use Rattle.std.specs.Prelude.{ℕ, ◌≡◌, ◌≢◌, ◌<◌, Option, None, Some, List, [], find, length, option_map, slice_index_or}
+use Rattle.std.specs.Prelude.{ℕ, ◌≡◌, ◌≢◌, ◌<◌, Option, None, Some, List, find, length, option_map, slice_index_or}
 use Rattle.nc_name.specs.declared.key.Key.{Key}
 use Rattle.nc_memory.specs.declared.record.Torn.{Torn}
 use Rattle.nc_memory.specs.declared.record.Torn.TheVariants.{Old, New, Gone, Broken}
@@ -15,14 +15,6 @@ pub record Found (objects : List Object) (key : Key) (i : ℕ) : Type 0 where
   pub within : i < length objects
   pub here : (d : Object) → (slice_index_or objects i d).key ≡ key
   pub before : (k : ℕ) (d : Object) → k < i → (slice_index_or objects k d).key ≢ key
-
--- what a delete leaves of an object
-abbrev pub deleted : Option Torn → Option (List ℕ) → Option (List ℕ)
-deleted None old = None
-deleted (Some Old) old = old
-deleted (Some New) old = None
-deleted (Some Gone) old = None
-deleted (Some Broken) old = option_map (λ bytes. []) old
 
 -- what a refused put leaves takes no memory
 abbrev pub TakesNoMemory : Option Torn → Type 0

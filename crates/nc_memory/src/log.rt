@@ -1,11 +1,13 @@
-ghost use Rattle.std.specs.Prelude.{◌≡◌, ◌++◌, ◌∷◌, [], OnOk, OnErr, option_map, None};
+ghost use Rattle.std.specs.Prelude.{◌≡◌, ◌++◌, ◌∷◌, [], IfOk, OnOk, OnErr, option_map, None};
 ghost use Rattle.std.specs.Option.{ForSome};
+ghost use Rattle.nc_cloud.specs.Cloud.{Lists};
 ghost use Rattle.nc_cloud.specs.Contents.{nothing};
 ghost use Rattle.nc_memory.specs.Record.{contents_after, value, WholeEvent, WholeLog};
 ghost use Rattle.nc_memory.specs.Shelf.{shelved};
 
 use crate::record::{Event, object_in};
-use crate::shelf::{Shelf, bytes_at, kept};
+use crate::shelf::{Shelf, bytes_at, kept, list_there, shelf_of};
+use nc_cloud::KeyList;
 use nc_name::{Key, Memory};
 use std::alloc::Global;
 
@@ -48,6 +50,19 @@ impl Log {
         push_event(&mut self.events, event)?;
         self.shelf = shelf;
         Ok(())
+    }
+
+    /// The keys of a cloud's objects, sorted by their texts.
+    pub(crate) fn list(&self, alloc: Global, cloud: u8) -> Result<KeyList, Memory>
+        ensures { IfOk result (Lists (contents_after self.now.events.items nothing cloud)) }
+    {
+        if let Some(shelf) = &self.shelf {
+            return list_there(alloc, shelf, cloud);
+        }
+        match shelf_of(alloc, &self.events) {
+            Some(shelf) => list_there(alloc, &shelf, cloud),
+            None => Err(Memory),
+        }
     }
 
     /// What a cloud holds under a key.

@@ -3,7 +3,7 @@ ghost use Rattle.nc_frame.specs.Frames.{Whole};
 ghost use Rattle.nc_cloud.specs.Contents.{ChangesAt, Rose, Settles};
 ghost use Rattle.nc_cloud.specs.Cloud.{AreSorted, GetShows, got_after, Lists};
 ghost use Rattle.nc_memory.specs.Record.{counted, left, refused_at};
-ghost use Rattle.nc_memory.specs.Store.{deleted, stored, TakesNoMemory};
+ghost use Rattle.nc_memory.specs.Store.{stored, TakesNoMemory};
 ghost use Rattle.nc_memory.specs.MemCloud.{calls_of, chunk_gets_of, faults_of, refusals_of, slips_of, stored_of};
 ghost use Rattle.nc_cloud.specs.declared.cloud.CloudError.TheVariants.{Failed, Memory as NoMemory};
 
@@ -56,7 +56,7 @@ fn put_by(
     key: &Key,
     bytes: &[u8],
 ) -> Result<(), Memory>
-    ensures ok { OnOk result (ChangesAt key.now (λ old now. now ≡ left refused bytes.now old) (stored objects.old.items) (stored objects.new.items)) }
+    ensures ok { OnOk result (ChangesAt key.now (λ old now. now ≡ left refused (Some bytes.now) old) (stored objects.old.items) (stored objects.new.items)) }
     ensures err { OnErr result (objects.new.items ≡ objects.old.items) }
     ensures sure { TakesNoMemory refused → IsOk result }
 {
@@ -76,7 +76,7 @@ fn put_by(
 
 /// Leaves of a delete what it was told to.
 fn delete_by(alloc: Global, objects: &mut Vec<Object>, refused: Option<Torn>, key: &Key)
-    ensures { ChangesAt key.now (λ old now. now ≡ deleted refused old) (stored objects.old.items) (stored objects.new.items) }
+    ensures { ChangesAt key.now (λ old now. now ≡ left refused None old) (stored objects.old.items) (stored objects.new.items) }
 {
     match refused {
         None | Some(Torn::New) | Some(Torn::Gone) => remove(objects, key),
@@ -180,7 +180,7 @@ impl Cloud for MemCloud {
         ensures refused { IsSome (refused_at (refusals_of self.old) (calls_of self.old + 1)) → IsErr result }
         ensures sure { TakesNoMemory (refused_at (refusals_of self.old) (calls_of self.old + 1)) → result ≡ Err Failed }
         ensures spared { refused_at (refusals_of self.old) (calls_of self.old + 1) ≡ None → IsErrOf result Failed → ⊥ }
-        ensures left { (IsErrOf result NoMemory → ⊥) → ChangesAt key.now (λ old now. now ≡ left (refused_at (refusals_of self.old) (calls_of self.old + 1)) bytes.now old) (stored_of self.old) (stored_of self.new) }
+        ensures left { (IsErrOf result NoMemory → ⊥) → ChangesAt key.now (λ old now. now ≡ left (refused_at (refusals_of self.old) (calls_of self.old + 1)) (Some bytes.now) old) (stored_of self.old) (stored_of self.new) }
         ensures starved { IsErrOf result NoMemory → stored_of self.new ≡ stored_of self.old }
         ensures calls { calls_of self.new ≡ counted (calls_of self.old + 1) }
         ensures refusals { refusals_of self.new ≡ refusals_of self.old }
@@ -204,7 +204,7 @@ impl Cloud for MemCloud {
         ensures sure { IsErrOf result NoMemory → ⊥ }
         ensures refused { IsSome (refused_at (refusals_of self.old) (calls_of self.old + 1)) → result ≡ Err Failed }
         ensures spared { refused_at (refusals_of self.old) (calls_of self.old + 1) ≡ None → IsOk result }
-        ensures left { ChangesAt key.now (λ old now. now ≡ deleted (refused_at (refusals_of self.old) (calls_of self.old + 1)) old) (stored_of self.old) (stored_of self.new) }
+        ensures left { ChangesAt key.now (λ old now. now ≡ left (refused_at (refusals_of self.old) (calls_of self.old + 1)) None old) (stored_of self.old) (stored_of self.new) }
         ensures calls { calls_of self.new ≡ counted (calls_of self.old + 1) }
         ensures refusals { refusals_of self.new ≡ refusals_of self.old }
     {

@@ -1,25 +1,31 @@
-ghost use Rattle.std.specs.Prelude.{◌≡◌, ◌≢◌, ◌<◌, ◌++◌, ◌∷◌, [], ℕ, None, Some, All, AllPairs, map, option_map, IfOk, OnOk, OnErr};
+ghost use Rattle.std.specs.Prelude.{◌≡◌, ◌≢◌, ◌<◌, ◌++◌, ◌∷◌, [], ℕ, None, Some, All, AllPairs, map, option_map, IfOk, IsErrOf, OnOk, OnErr};
 ghost use Rattle.nc_name.specs.declared.key.Key.{Key};
 ghost use Rattle.nc_frame.specs.Frames.{Whole};
+ghost use Rattle.nc_cloud.specs.Cloud.{AreSorted, Lists};
 ghost use Rattle.nc_cloud.specs.Contents.{Rose, Leaves, Grows, nothing};
-ghost use Rattle.nc_cloud.specs.Fleet.{asked, chunks_got, got_count, writes, touches, Answers};
+ghost use Rattle.nc_cloud.specs.Fleet.{asked, chunks_got, erase_touches, erasure, erasures, got_count, write, writes, touches, Answers};
+ghost use Rattle.nc_cloud.specs.declared.cloud.CloudError.TheVariants.{Failed as ListFailed};
 ghost use Rattle.nc_cloud.specs.declared.fleet.Answer.TheVariants.{Waiting as Unanswered, Failed as NoAnswer};
 ghost use Rattle.nc_cloud.specs.declared.fleet.Done.TheVariants.{Waiting, Failed};
 ghost use Rattle.nc_cloud.specs.Images.{Image};
 ghost use Rattle.nc_cloud.specs.Time.{Elapses, Stays};
 ghost use Rattle.nc_memory.specs.MomentLaws.{at_last, one_earlier, only_last, still_one};
 ghost use Rattle.nc_memory.specs.Moments.{image_of, now_of, past_of};
-ghost use Rattle.nc_memory.specs.Record.{counted, WholeSteps};
+ghost use Rattle.nc_memory.specs.Record.{counted, end_erase, end_job, WholeSteps};
 ghost use Rattle.nc_memory.specs.Rounds.{entries_served, round_entries, round_place, rounds_in};
 ghost use Rattle.nc_memory.specs.Stops.{cut, LeavesStopped};
-ghost use Rattle.nc_memory.specs.Memory.{chunk_gets_of, contents_of, entries_of, faults_of, gets_event, log_of, puts_event, refusals_of, width_of, Gives, ServesGets, ServesPuts, Takes, Unchanged};
+ghost use Rattle.nc_memory.specs.Memory.{chunk_gets_of, contents_of, entries_of, faults_of, gets_event, log_of, refusals_of, slips_of, width_of, writes_event};
+ghost use Rattle.nc_memory.specs.Memory.{Gives, ServesDeletes, ServesGets, ServesList, ServesPuts, Takes, TakesList, Unchanged};
 
 use crate::log::Log;
-use crate::record::{Event, LookList, Refusal, StepList, Torn, gifts_in};
+use crate::record::{Event, LookList, Refusal, StepList, Torn, gifts_in, refusal_of};
 use crate::rounds::{count_entries, count_rounds, entries_at, find_round};
-use crate::serving::{answer_all, looks_of, mark, plan_puts, starve_asks, starve_jobs};
+use crate::serving::{
+    answer_all, looks_of, mark_erases, mark_jobs, plan_erases, plan_puts, starve_asks,
+    starve_erases, starve_jobs,
+};
 use crate::stops::{copied_refusals, cut_log, push_refusal};
-use nc_cloud::{Ask, Fleet, Job};
+use nc_cloud::{Ask, CloudError, Erase, Fleet, Job, KeyList};
 use nc_name::{Blob, Key, Memory};
 use std::alloc::Global;
 
@@ -45,16 +51,16 @@ fn record_gets(alloc: Global, log: &mut Log, looks: LookList) -> Result<(), Memo
     log.push(alloc, Event::Gets(looks))
 }
 
-/// Records the puts of a round, where there are any.
-fn record_puts(alloc: Global, log: &mut Log, steps: StepList) -> Result<(), Memory>
+/// Records the writes of a round, where there are any.
+fn record_writes(alloc: Global, log: &mut Log, steps: StepList) -> Result<(), Memory>
     requires { WholeSteps steps }
-    ensures ok { OnOk result (log.new.events.items ≡ log.old.events.items ++ puts_event steps) }
+    ensures ok { OnOk result (log.new.events.items ≡ log.old.events.items ++ writes_event steps) }
     ensures err { OnErr result (log.new.events.items ≡ log.old.events.items) }
 {
     if steps.items().is_empty() {
         return Ok(());
     }
-    log.push(alloc, Event::Puts(steps))
+    log.push(alloc, Event::Writes(steps))
 }
 
 impl MemFleet {
@@ -66,6 +72,7 @@ impl MemFleet {
         ensures width { IfOk result (λ fleet. width_of fleet ≡ width) }
         ensures held { IfOk result (λ fleet. contents_of fleet ≡ nothing) }
         ensures faults { IfOk result (λ fleet. (c : ℕ) → faults_of fleet c ≡ 0) }
+        ensures slips { IfOk result (λ fleet. (c : ℕ) → slips_of fleet c ≡ 0) }
     {
         Ok(MemFleet {
             alloc,
@@ -76,14 +83,15 @@ impl MemFleet {
         })
     }
 
-    /// Lets the nth entry fail, counted from 1 over all rounds in the order of their entries. What was given first
-    /// for a number counts. At `Memory` nothing changed.
+    /// Lets the nth entry fail, counted from 1 over all rounds in the order of their entries; a list is one entry. What
+    /// was given first for a number counts. At `Memory` nothing changed.
     pub fn refuse(&mut self, nth: u64, outcome: Torn) -> Result<(), Memory>
         ensures ok { OnOk result (refusals_of self.new ≡ refusals_of self.old ++ record { nth = nth; outcome = outcome } ∷ []) }
         ensures err { OnErr result (refusals_of self.new ≡ refusals_of self.old) }
         ensures log { log_of self.new ≡ log_of self.old }
         ensures held { contents_of self.new ≡ contents_of self.old }
         ensures faults { faults_of self.new ≡ faults_of self.old }
+        ensures slips { slips_of self.new ≡ slips_of self.old }
         ensures entries { entries_of self.new ≡ entries_of self.old }
         ensures width { width_of self.new ≡ width_of self.old }
     {
@@ -104,7 +112,7 @@ impl MemFleet {
         gifts_in(&self.log.events, cloud)
     }
 
-    /// How many rounds there were. A round without entries doesn't count.
+    /// How many rounds there were. A round without entries doesn't count, nor does a list.
     pub fn rounds(&self) -> u64
         ensures { result ≡ rounds_in (log_of self.now) }
     {
@@ -141,7 +149,7 @@ impl MemFleet {
         })
     }
 
-    /// The length of the record: its rounds and the objects that were planted.
+    /// The length of the record: its rounds, the lists and the objects that were planted.
     pub fn length(&self) -> u64
         ensures { result ≡ now_of self.now }
     {
@@ -156,6 +164,7 @@ impl MemFleet {
         ensures there { OnOk result (contents_of self.new cloud key.now ≡ Some bytes.now) }
         ensures others { OnOk result ((c : ℕ) (q : Key) → (c ≡ cloud → q ≢ key.now) → contents_of self.new c q ≡ contents_of self.old c q) }
         ensures faults { faults_of self.new ≡ faults_of self.old }
+        ensures slips { slips_of self.new ≡ slips_of self.old }
         ensures gets { chunk_gets_of self.new ≡ chunk_gets_of self.old }
         ensures refusals { refusals_of self.new ≡ refusals_of self.old }
         ensures entries { entries_of self.new ≡ entries_of self.old }
@@ -185,15 +194,37 @@ impl MemFleet {
     }
 
     /// Records the puts of a round and answers them.
-    fn take(&mut self, jobs: &mut [Job]) -> Result<(), Memory>
+    fn take_jobs(&mut self, jobs: &mut [Job]) -> Result<(), Memory>
         requires { All (λ j. Whole j.bytes) jobs.old }
-        ensures ok { OnOk result (Takes self.old self.new jobs.old jobs.new) }
+        ensures ok { OnOk result (Takes write end_job self.old self.new jobs.old jobs.new) }
         ensures err { OnErr result ((jobs.new ≡ jobs.old) × Unchanged self.old self.new) }
     {
         let steps = plan_puts(self.alloc, &self.refusals, self.entries, jobs)?;
-        record_puts(self.alloc, &mut self.log, steps)?;
-        mark(&self.refusals, self.entries, jobs);
+        record_writes(self.alloc, &mut self.log, steps)?;
+        mark_jobs(&self.refusals, self.entries, jobs);
         self.entries = self.entries.saturating_add(jobs.len() as u64);
+        Ok(())
+    }
+
+    /// Records the deletes of a round and answers them.
+    fn take_erases(&mut self, erases: &mut [Erase]) -> Result<(), Memory>
+        ensures ok { OnOk result (Takes erasure end_erase self.old self.new erases.old erases.new) }
+        ensures err { OnErr result ((erases.new ≡ erases.old) × Unchanged self.old self.new) }
+    {
+        let steps = plan_erases(self.alloc, &self.refusals, self.entries, erases)?;
+        record_writes(self.alloc, &mut self.log, steps)?;
+        mark_erases(&self.refusals, self.entries, erases);
+        self.entries = self.entries.saturating_add(erases.len() as u64);
+        Ok(())
+    }
+
+    /// Records a list.
+    fn take_list(&mut self, cloud: u8, failed: bool) -> Result<(), Memory>
+        ensures ok { OnOk result (TakesList self.old self.new cloud failed) }
+        ensures err { OnErr result (Unchanged self.old self.new) }
+    {
+        self.log.push(self.alloc, Event::Listed { cloud, failed })?;
+        self.entries = self.entries.saturating_add(1);
         Ok(())
     }
 
@@ -210,9 +241,30 @@ impl MemFleet {
         requires { All (λ j. Whole j.bytes) jobs.old }
         ensures { ServesPuts self.old self.new jobs.old jobs.new }
     {
-        if self.take(jobs).is_err() {
+        if self.take_jobs(jobs).is_err() {
             starve_jobs(jobs);
         }
+    }
+
+    fn serve_deletes(&mut self, erases: &mut [Erase])
+        ensures { ServesDeletes self.old self.new erases.old erases.new }
+    {
+        if self.take_erases(erases).is_err() {
+            starve_erases(erases);
+        }
+    }
+
+    fn serve_list(&mut self, cloud: u8) -> Result<KeyList, CloudError>
+        ensures told { IfOk result (Lists (contents_of self.old cloud)) }
+        ensures serves { ServesList self.old self.new cloud result }
+    {
+        if refusal_of(&self.refusals, self.entries, 0).is_some() {
+            self.take_list(cloud, true)?;
+            return Err(CloudError::Failed);
+        }
+        let keys = self.log.list(self.alloc, cloud)?;
+        self.take_list(cloud, false)?;
+        Ok(keys)
     }
 }
 
@@ -225,7 +277,7 @@ impl Fleet for MemFleet {
 
     ghost faults = { faults_of };
 
-    ghost slips = { λ _ _. 0 };
+    ghost slips = { slips_of };
 
     ghost counts_exactly = { Unit {0} };
 
@@ -254,6 +306,7 @@ impl Fleet for MemFleet {
         ensures clouds { width_of self.new ≡ width_of self.old }
         ensures held { contents_of self.new ≡ contents_of self.old }
         ensures grows { Grows (faults_of self.old) (faults_of self.new) }
+        ensures slips { slips_of self.new ≡ slips_of self.old }
         ensures gets { (c : ℕ) → chunk_gets_of self.new c ≡ got_count (chunk_gets_of self.old c) (chunks_got c asks.new) }
         ensures time { Elapses (now_of self.old) (now_of self.new) (image_of self.old) (image_of self.new) (λ G. G ≡ contents_of self.old) }
         ensures past { Stays (now_of self.old) (past_of self.old) (past_of self.new) }
@@ -273,12 +326,50 @@ impl Fleet for MemFleet {
         ensures exact { (c : ℕ) → All (λ j. j.cloud ≡ c → j.done ≢ Failed) jobs.new → faults_of self.new c ≡ faults_of self.old c }
         ensures clouds { width_of self.new ≡ width_of self.old }
         ensures grows { Grows (faults_of self.old) (faults_of self.new) }
+        ensures slips { slips_of self.new ≡ slips_of self.old }
         ensures gets { chunk_gets_of self.new ≡ chunk_gets_of self.old }
         ensures time { Elapses (now_of self.old) (now_of self.new) (image_of self.old) (image_of self.new) (Image (writes jobs.old) (contents_of self.old)) }
         ensures past { Stays (now_of self.old) (past_of self.old) (past_of self.new) }
         ensures serves { ServesPuts self.old self.new jobs.old jobs.new }
     {
         self.serve_puts(jobs);
+    }
+
+    fn delete_round(&mut self, erases: &mut [Erase])
+        requires below { All (λ e. e.cloud < width_of self.old) erases.old }
+        requires once { AllPairs (λ a b. a.cloud ≢ b.cloud) erases.old }
+        ensures entries { erasures erases.new ≡ erasures erases.old }
+        ensures answered { All (λ e. e.done ≢ Waiting) erases.new }
+        ensures told { Leaves (erase_touches erases.new) (contents_of self.old) (contents_of self.new) }
+        ensures failed { All (λ e. e.done ≡ Failed → Rose (slips_of self.old e.cloud) (slips_of self.new e.cloud)) erases.new }
+        ensures exact { (c : ℕ) → All (λ e. e.cloud ≡ c → e.done ≢ Failed) erases.new → slips_of self.new c ≡ slips_of self.old c }
+        ensures clouds { width_of self.new ≡ width_of self.old }
+        ensures grows { Grows (slips_of self.old) (slips_of self.new) }
+        ensures faults { faults_of self.new ≡ faults_of self.old }
+        ensures gets { chunk_gets_of self.new ≡ chunk_gets_of self.old }
+        ensures time { Elapses (now_of self.old) (now_of self.new) (image_of self.old) (image_of self.new) (Image (erasures erases.old) (contents_of self.old)) }
+        ensures past { Stays (now_of self.old) (past_of self.old) (past_of self.new) }
+        ensures serves { ServesDeletes self.old self.new erases.old erases.new }
+    {
+        self.serve_deletes(erases);
+    }
+
+    fn list(&mut self, cloud: u8) -> Result<KeyList, CloudError>
+        requires below { cloud < width_of self.old }
+        ensures told { IfOk result (Lists (contents_of self.old cloud)) }
+        ensures sorted { IfOk result AreSorted }
+        ensures failed { IsErrOf result ListFailed → Rose (slips_of self.old cloud) (slips_of self.new cloud) }
+        ensures exact { (c : ℕ) → (c ≡ cloud → IsErrOf result ListFailed → ⊥) → slips_of self.new c ≡ slips_of self.old c }
+        ensures clouds { width_of self.new ≡ width_of self.old }
+        ensures held { contents_of self.new ≡ contents_of self.old }
+        ensures grows { Grows (slips_of self.old) (slips_of self.new) }
+        ensures faults { faults_of self.new ≡ faults_of self.old }
+        ensures gets { chunk_gets_of self.new ≡ chunk_gets_of self.old }
+        ensures time { Elapses (now_of self.old) (now_of self.new) (image_of self.old) (image_of self.new) (λ G. G ≡ contents_of self.old) }
+        ensures past { Stays (now_of self.old) (past_of self.old) (past_of self.new) }
+        ensures serves { ServesList self.old self.new cloud result }
+    {
+        self.serve_list(cloud)
     }
 
     ghost counts_now = { λ f t told le. still_one (log_of f) t nothing };

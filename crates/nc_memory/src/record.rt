@@ -1,11 +1,13 @@
-ghost use Rattle.std.specs.Prelude.{◌≡◌, ◌&&◌, ◌+◌, ◌<◌, nat_eq, find, option_map, option_copied};
+ghost use Rattle.std.specs.Prelude.{◌≡◌, ◌&&◌, ◌+◌, ◌<◌, nat_eq, find, option_map, option_copied, IfOk};
 ghost use Rattle.nc_cloud.specs.Fleet.{tally};
-ghost use Rattle.nc_memory.specs.Record.{counted, gifts, step_at, left, refused_at, value_after, value, steps_of, look_of, answer_of};
+ghost use Rattle.nc_memory.specs.Record.{broken, counted, gifts, step_at, left, refused_at, value_after, value};
 ghost use Rattle.nc_cloud.specs.Contents.{nothing};
 
-use nc_name::{Blob, Key, Sequence};
+use nc_name::{Blob, Key, Memory, Sequence};
+use std::alloc::Global;
 
-/// How the object of an entry that fails is left. `Broken` leaves the new bytes without their last byte.
+/// How the object of an entry that fails is left. `Broken` leaves a put's bytes without their last byte, and of the
+/// object of a delete, where there was one, no bytes.
 #[derive(Clone, Copy, Debug, PartialEq, Eq)]
 pub enum Torn {
     Old,
@@ -31,12 +33,12 @@ pub struct Look {
     pub gave_chunk: bool,
 }
 
-/// A put that was served.
+/// A put that was served, or a delete: a write of nothing.
 #[derive(Debug, Drop)]
 pub struct Step {
     pub cloud: u8,
     pub key: Key,
-    pub bytes: Blob,
+    pub new: Option<Blob>,
     pub failed: bool,
     /// How its object was left, where not as was asked.
     pub fate: Option<Torn>,
@@ -45,14 +47,16 @@ pub struct Step {
 /// Gets of one round.
 pub type LookList = Sequence<Look>;
 
-/// Puts of one round.
+/// Puts and deletes of one round.
 pub type StepList = Sequence<Step>;
 
 /// What happened to a fleet.
 #[derive(Debug, Drop)]
 pub enum Event {
     Gets(LookList),
-    Puts(StepList),
+    Writes(StepList),
+    /// A list. It is an entry, but no round.
+    Listed { cloud: u8, failed: bool },
     /// An object was placed without a round.
     Planted { cloud: u8, key: Key, bytes: Blob },
 }
@@ -64,17 +68,46 @@ pub(crate) fn step_of(steps: &[Step], cloud: u8) -> Option<&Step>
     steps.iter().find(|s| s.cloud == cloud)
 }
 
-/// What an object is after a put, where it was `old` before.
-pub(crate) fn object_left<'a>(step: &'a Step, old: Option<&'a [u8]>) -> Option<&'a [u8]>
-    ensures { option_map (λ r. r.now) result ≡ left step.now.fate step.now.bytes (option_map (λ r. r.now) old.entry) }
+/// What a write was to leave.
+pub(crate) fn object_written(step: &Step) -> Option<&[u8]>
+    ensures { option_map (λ r. r.now) result ≡ step.now.new }
 {
-    let bytes = step.bytes.bytes();
+    match &step.new {
+        Some(bytes) => Some(bytes.bytes()),
+        None => None,
+    }
+}
+
+/// What a broken write leaves.
+fn object_broken<'a>(new: Option<&'a [u8]>, old: Option<&'a [u8]>) -> Option<&'a [u8]>
+    ensures { option_map (λ r. r.now) result ≡ broken (option_map (λ r. r.now) new.entry) (option_map (λ r. r.now) old.entry) }
+{
+    match (new, old) {
+        (Some(bytes), _) => Some(nc_bytes::part_of(bytes, 0, bytes.len().saturating_sub(1))),
+        (None, Some(bytes)) => Some(nc_bytes::part_of(bytes, 0, 0)),
+        (None, None) => None,
+    }
+}
+
+/// What an object is after a write, where it was `old` before.
+pub(crate) fn object_left<'a>(step: &'a Step, old: Option<&'a [u8]>) -> Option<&'a [u8]>
+    ensures { option_map (λ r. r.now) result ≡ left step.now.fate step.now.new (option_map (λ r. r.now) old.entry) }
+{
     match step.fate {
-        None => Some(bytes),
+        None | Some(Torn::New) => object_written(step),
         Some(Torn::Old) => old,
-        Some(Torn::New) => Some(bytes),
         Some(Torn::Gone) => None,
-        Some(Torn::Broken) => Some(nc_bytes::part_of(bytes, 0, bytes.len().saturating_sub(1))),
+        Some(Torn::Broken) => object_broken(object_written(step), old),
+    }
+}
+
+/// A copy of an object.
+pub(crate) fn copied_object(alloc: Global, object: Option<&[u8]>) -> Result<Option<Blob>, Memory>
+    ensures { IfOk result (λ copy. copy ≡ option_map (λ r. r.now) object.entry) }
+{
+    match object {
+        Some(bytes) => Ok(Some(Blob::from_slice(alloc, bytes)?)),
+        None => Ok(None),
     }
 }
 
@@ -88,8 +121,8 @@ fn object_after<'a>(
     ensures { option_map (λ r. r.now) result ≡ value_after event.now cloud key.now (option_map (λ r. r.now) old.entry) }
 {
     match event {
-        Event::Gets(_) => old,
-        Event::Puts(steps) => match step_of(steps.items(), cloud) {
+        Event::Gets(_) | Event::Listed { .. } => old,
+        Event::Writes(steps) => match step_of(steps.items(), cloud) {
             Some(step) if step.key.is_same(key) => object_left(step, old),
             _ => old,
         },

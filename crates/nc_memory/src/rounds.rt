@@ -8,8 +8,8 @@ fn makes_round(event: &Event) -> bool
     ensures { result ≡ is_round event.now }
 {
     match event {
-        Event::Gets(_) | Event::Puts(_) => true,
-        Event::Planted { .. } => false,
+        Event::Gets(_) | Event::Writes(_) => true,
+        Event::Listed { .. } | Event::Planted { .. } => false,
     }
 }
 
@@ -18,7 +18,8 @@ fn size_of(event: &Event) -> usize
 {
     match event {
         Event::Gets(looks) => looks.items().len(),
-        Event::Puts(steps) => steps.items().len(),
+        Event::Writes(steps) => steps.items().len(),
+        Event::Listed { .. } => 1,
         Event::Planted { .. } => 0,
     }
 }

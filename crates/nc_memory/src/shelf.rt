@@ -1,11 +1,14 @@
-ghost use Rattle.std.specs.Prelude.{◌≡◌, ◌≢◌, ◌++◌, ◌∷◌, [], None, Some, OnOk, option_map, true, false};
+ghost use Rattle.std.specs.Prelude.{◌≡◌, ◌++◌, ◌∷◌, [], None, Some, IfOk, OnOk, option_map};
+ghost use Rattle.std.specs.BTreeMap.{keys};
 ghost use Rattle.std.specs.Option.{ForSome};
+ghost use Rattle.nc_cloud.specs.Cloud.{Lists};
 ghost use Rattle.nc_cloud.specs.Contents.{Contents, nothing};
 ghost use Rattle.nc_memory.specs.Record.{contents_after};
-ghost use Rattle.nc_memory.specs.Shelf.{after_steps, set_at, shelved};
+ghost use Rattle.nc_memory.specs.Shelf.{after_steps, keys_at, set_at, shelved};
 
-use crate::record::{Event, Step, Torn, object_left, step_of};
+use crate::record::{Event, Step, copied_object, object_left, step_of};
 use crate::site::Site;
+use nc_cloud::{KeyList, sorted_keys};
 use nc_name::{Blob, Key, Memory};
 use std::alloc::Global;
 use std::collections::BTreeMap;
@@ -24,12 +27,11 @@ pub(crate) fn bytes_at<'a>(shelf: &'a Shelf, cloud: u8, key: &Key) -> Option<&'a
     }
 }
 
-/// Puts a copy of these bytes there.
-fn put_there(alloc: Global, shelf: &mut Shelf, site: Site, bytes: &[u8]) -> Result<(), Memory>
-    ensures { OnOk result (shelved shelf.new ≡ set_at site (Some bytes.now) (shelved shelf.old)) }
+/// Puts these bytes there.
+fn put_there(shelf: &mut Shelf, site: Site, bytes: Blob) -> Result<(), Memory>
+    ensures { OnOk result (shelved shelf.new ≡ set_at site (Some bytes) (shelved shelf.old)) }
 {
-    let copy = Blob::from_slice(alloc, bytes)?;
-    match shelf.insert(site, copy) {
+    match shelf.insert(site, bytes) {
         Ok(_) => Ok(()),
         Err(_) => Err(Memory),
     }
@@ -42,27 +44,12 @@ fn clear_there(shelf: &mut Shelf, site: Site)
     let _old = shelf.remove(&site);
 }
 
-/// Whether the object of a put was left as it was.
-fn leaves_old(step: &Step) -> bool
-    ensures yes { result ≡ true → step.now.fate ≡ Some Torn.Old }
-    ensures no { result ≡ false → step.now.fate ≢ Some Torn.Old }
+/// Makes an object what is given.
+fn set_there(shelf: &mut Shelf, site: Site, object: Option<Blob>) -> Result<(), Memory>
+    ensures { OnOk result (shelved shelf.new ≡ set_at site object (shelved shelf.old)) }
 {
-    matches!(step.fate, Some(Torn::Old))
-}
-
-/// What a put leaves.
-fn shelve_step(alloc: Global, shelf: &mut Shelf, step: &Step) -> Result<(), Memory>
-    ensures { OnOk result (shelved shelf.new ≡ after_steps (step.now ∷ []) (shelved shelf.old)) }
-{
-    if leaves_old(step) {
-        return Ok(());
-    }
-    let site = Site {
-        cloud: step.cloud,
-        key: step.key,
-    };
-    match object_left(step, None) {
-        Some(bytes) => put_there(alloc, shelf, site, bytes),
+    match object {
+        Some(bytes) => put_there(shelf, site, bytes),
         None => {
             clear_there(shelf, site);
             Ok(())
@@ -70,7 +57,20 @@ fn shelve_step(alloc: Global, shelf: &mut Shelf, step: &Step) -> Result<(), Memo
     }
 }
 
-/// What a put leaves, where these came before it in its round: of each cloud, the first alone is done.
+/// What a write leaves.
+fn shelve_step(alloc: Global, shelf: &mut Shelf, step: &Step) -> Result<(), Memory>
+    ensures { OnOk result (shelved shelf.new ≡ after_steps (step.now ∷ []) (shelved shelf.old)) }
+{
+    let left = object_left(step, bytes_at(shelf, step.cloud, &step.key));
+    let object = copied_object(alloc, left)?;
+    let site = Site {
+        cloud: step.cloud,
+        key: step.key,
+    };
+    set_there(shelf, site, object)
+}
+
+/// What a write leaves, where these came before it in its round: of each cloud, the first alone is done.
 fn shelve_next(alloc: Global, shelf: &mut Shelf, before: &[Step], step: &Step) -> Result<(), Memory>
     ensures { (F : Contents) → shelved shelf.old ≡ after_steps before.now F → OnOk result (shelved shelf.new ≡ after_steps (before.now ++ step.now ∷ []) F) }
 {
@@ -80,7 +80,7 @@ fn shelve_next(alloc: Global, shelf: &mut Shelf, before: &[Step], step: &Step) -
     }
 }
 
-/// What the puts of a round leave.
+/// What the writes of a round leave.
 fn shelve_steps(alloc: Global, shelf: &mut Shelf, steps: &[Step]) -> Result<(), Memory>
     ensures { OnOk result (shelved shelf.new ≡ after_steps steps.now (shelved shelf.old)) }
 {
@@ -95,14 +95,14 @@ fn shelve(alloc: Global, shelf: &mut Shelf, event: &Event) -> Result<(), Memory>
     ensures { OnOk result (shelved shelf.new ≡ contents_after (event.now ∷ []) (shelved shelf.old)) }
 {
     match event {
-        Event::Gets(_) => Ok(()),
-        Event::Puts(steps) => shelve_steps(alloc, shelf, steps.items()),
+        Event::Gets(_) | Event::Listed { .. } => Ok(()),
+        Event::Writes(steps) => shelve_steps(alloc, shelf, steps.items()),
         Event::Planted { cloud, key, bytes } => {
             let site = Site {
                 cloud: *cloud,
                 key: *key,
             };
-            put_there(alloc, shelf, site, bytes.bytes())
+            put_there(shelf, site, Blob::from_slice(alloc, bytes.bytes())?)
         }
     }
 }
@@ -130,4 +130,24 @@ pub(crate) fn shelf_of(alloc: Global, log: &[Event]) -> Option<Shelf>
         }
     }
     Some(shelf)
+}
+
+/// The keys of a cloud's objects, in no order.
+fn keys_there(alloc: Global, shelf: &Shelf, cloud: u8) -> Result<Vec<Key>, Memory>
+    ensures { IfOk result (λ list. list.items ≡ keys_at cloud (keys shelf.now)) }
+{
+    let mut list = Vec::new(alloc);
+    for site in shelf.keys() {
+        if site.cloud == cloud {
+            list.push(site.key)?;
+        }
+    }
+    Ok(list)
+}
+
+/// The keys of a cloud's objects, sorted by their texts.
+pub(crate) fn list_there(alloc: Global, shelf: &Shelf, cloud: u8) -> Result<KeyList, Memory>
+    ensures { IfOk result (Lists (shelved shelf.now cloud)) }
+{
+    sorted_keys(alloc, keys_there(alloc, shelf, cloud)?)
 }

@@ -3,7 +3,9 @@ ghost use Rattle.nc_memory.specs.Record.{numbered};
 ghost use Rattle.nc_memory.specs.Stops.{cut, stopped_event, stopped_step};
 
 use crate::log::{Log, push_event};
-use crate::record::{Event, Look, LookList, Refusal, Step, StepList, Torn};
+use crate::record::{
+    Event, Look, LookList, Refusal, Step, StepList, Torn, copied_object, object_written,
+};
 use crate::shelf::shelf_of;
 use nc_name::{Blob, Memory};
 use std::alloc::Global;
@@ -28,14 +30,14 @@ fn copied_looks(alloc: Global, looks: &[Look]) -> Result<LookList, Memory>
     Ok(copies)
 }
 
-/// A copy of a put, with another fate.
+/// A copy of a write, with another fate.
 fn copied_step(alloc: Global, step: &Step, fate: Option<Torn>) -> Result<Step, Memory>
     ensures { IfOk result (λ copy. copy ≡ record step.now { fate = fate }) }
 {
     Ok(Step {
         cloud: step.cloud,
         key: step.key,
-        bytes: Blob::from_slice(alloc, step.bytes.bytes())?,
+        new: copied_object(alloc, object_written(step))?,
         failed: step.failed,
         fate,
     })
@@ -51,7 +53,7 @@ fn copied_steps(alloc: Global, steps: &[Step]) -> Result<StepList, Memory>
     Ok(copies)
 }
 
-/// The puts of a round, stopped in these fates.
+/// The writes of a round, stopped in these fates.
 fn stopped_steps(alloc: Global, steps: &[Step], fates: &[Torn]) -> Result<StepList, Memory>
     ensures { IfOk result (λ copies. copies ≡ numbered (stopped_step fates.now) 0 steps.now) }
 {
@@ -67,7 +69,11 @@ fn copied_event(alloc: Global, event: &Event) -> Result<Event, Memory>
 {
     match event {
         Event::Gets(looks) => Ok(Event::Gets(copied_looks(alloc, looks.items())?)),
-        Event::Puts(steps) => Ok(Event::Puts(copied_steps(alloc, steps.items())?)),
+        Event::Writes(steps) => Ok(Event::Writes(copied_steps(alloc, steps.items())?)),
+        Event::Listed { cloud, failed } => Ok(Event::Listed {
+            cloud: *cloud,
+            failed: *failed,
+        }),
         Event::Planted { cloud, key, bytes } => Ok(Event::Planted {
             cloud: *cloud,
             key: *key,
@@ -81,8 +87,8 @@ fn stop_event(alloc: Global, event: &Event, fates: &[Torn]) -> Result<Event, Mem
     ensures { IfOk result (λ copy. copy ≡ stopped_event fates.now event.now) }
 {
     match event {
-        Event::Puts(steps) => Ok(Event::Puts(stopped_steps(alloc, steps.items(), fates)?)),
-        Event::Gets(_) | Event::Planted { .. } => copied_event(alloc, event),
+        Event::Writes(steps) => Ok(Event::Writes(stopped_steps(alloc, steps.items(), fates)?)),
+        Event::Gets(_) | Event::Listed { .. } | Event::Planted { .. } => copied_event(alloc, event),
     }
 }
 

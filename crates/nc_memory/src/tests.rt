@@ -2,12 +2,12 @@ ghost use Rattle.std.specs.Prelude.{◌≡◌, ◌<◌};
 ghost use Rattle.nc_name.specs.Keys.{Slots};
 ghost use Rattle.nc_memory.specs.Memory.{width_of};
 
-use crate::cloud_tests::chunk;
+use crate::cloud_tests::{chunk, meta};
 use crate::memory::MemFleet;
 use crate::record::Torn;
-use nc_cloud::{Answer, Ask, Done, Fleet, Job};
+use nc_cloud::{Answer, Ask, CloudError, Done, Erase, Fleet, Job};
 use nc_frame::seal;
-use nc_name::{Blob, Key, Memory, Name};
+use nc_name::{Key, Memory, Name};
 use std::alloc::Global;
 use std::test::Fail;
 
@@ -32,6 +32,20 @@ fn put(
     }];
     fleet.put_round(&mut jobs);
     Ok(jobs[0].done)
+}
+
+/// Deletes an object, in a round of its own.
+fn delete(fleet: &mut MemFleet, cloud: u8, key: &Key) -> Done
+    requires below { cloud < width_of fleet.old }
+    ensures { width_of fleet.new ≡ width_of fleet.old }
+{
+    let mut erases = [Erase {
+        cloud,
+        key: *key,
+        done: Done::Waiting,
+    }];
+    fleet.delete_round(&mut erases);
+    erases[0].done
 }
 
 /// Asks a cloud for at most this much of an object, in a round of its own.
@@ -64,80 +78,108 @@ fn len_of(fleet: &MemFleet, cloud: u8, key: &Key) -> Option<usize> {
     }
 }
 
-/// How long an object of 58 bytes is after a put of 59 that left it so.
-fn lens_left() -> [(Torn, Option<usize>); 4] {
-    [
-        (Torn::Old, Some(58)),
-        (Torn::New, Some(59)),
-        (Torn::Gone, None),
-        // 59 bytes without the last
-        (Torn::Broken, Some(58)),
-    ]
-}
-
-/// What cloud 1 of 4 holds after a put of 58 bytes, and one of 59 that was told to fail so.
-fn len_after(alloc: Global, key: &Key, outcome: Torn) -> Result<Option<usize>, Memory>
-    requires slots { Slots key.now }
-{
-    let mut fleet = MemFleet::new(alloc, 4)?;
-    fleet.refuse(2, outcome)?;
-    put(alloc, &mut fleet, 1, key, &[4, 4])?;
-    put(alloc, &mut fleet, 1, key, &[5, 6, 7])?;
-    Ok(len_of(&fleet, 1, key))
-}
-
 #[test]
-fn a_put_is_read_back(rt: HostRuntime) -> Result<(), Fail> {
+fn a_put_is_read_back_but_where_the_get_is_refused(rt: HostRuntime) -> Result<(), Fail> {
     let key = chunk(Name::read("a")?, 0);
     let mut fleet = MemFleet::new(rt.alloc(), 4)?;
+    fleet.refuse(2, Torn::Old)?;
     assert_eq!(rt; put(rt.alloc(), &mut fleet, 1, &key, &[4, 4])?, Done::Ok);
+    assert!(rt; matches!(get(&mut fleet, 1, &key, 58).answer, Answer::Failed));
     assert!(rt; gave(&get(&mut fleet, 1, &key, 58), 58));
     assert!(rt; matches!(get(&mut fleet, 1, &key, 57).answer, Answer::Long));
     assert!(rt; matches!(get(&mut fleet, 2, &key, 58).answer, Answer::Absent));
     Ok(())
 }
 
-#[test]
-fn a_refused_put_leaves_what_was_told(rt: HostRuntime) -> Result<(), Fail> {
-    let key = chunk(Name::read("a")?, 0);
-    for (outcome, left) in lens_left() {
-        assert_eq!(rt; len_after(rt.alloc(), &key, outcome)?, left);
+/// How long an object of 58 bytes is after a put of 59 that left it so, and after such a delete.
+fn lens_left() -> [(Torn, Option<usize>, Option<usize>); 4] {
+    [
+        (Torn::Old, Some(58), Some(58)),
+        (Torn::New, Some(59), None),
+        (Torn::Gone, None, None),
+        // 59 bytes without the last, and none
+        (Torn::Broken, Some(58), Some(0)),
+    ]
+}
+
+/// A put of 59 bytes on cloud 1, or a delete there.
+fn change(alloc: Global, fleet: &mut MemFleet, key: &Key, deletes: bool) -> Result<Done, Memory>
+    requires below { 1 < width_of fleet.old }
+    requires slots { Slots key.now }
+    ensures { width_of fleet.new ≡ width_of fleet.old }
+{
+    if deletes {
+        return Ok(delete(fleet, 1, key));
     }
-    Ok(())
+    put(alloc, fleet, 1, key, &[5, 6, 7])
 }
 
-#[test]
-fn a_refused_get_fails_and_the_next_gives(rt: HostRuntime) -> Result<(), Fail> {
-    let key = chunk(Name::read("a")?, 0);
-    let mut fleet = MemFleet::new(rt.alloc(), 4)?;
-    fleet.refuse(2, Torn::Old)?;
-    fleet.refuse(2, Torn::Gone)?;
-    assert_eq!(rt; put(rt.alloc(), &mut fleet, 1, &key, &[4, 4])?, Done::Ok);
-    assert!(rt; matches!(get(&mut fleet, 1, &key, 58).answer, Answer::Failed));
-    assert!(rt; gave(&get(&mut fleet, 1, &key, 58), 58));
-    Ok(())
+/// How long an object of 58 bytes is after a write that was told to fail so.
+fn len_after(
+    alloc: Global,
+    key: &Key,
+    deletes: bool,
+    outcome: Torn,
+) -> Result<Option<usize>, Memory>
+    requires slots { Slots key.now }
+{
+    let mut fleet = MemFleet::new(alloc, 4)?;
+    fleet.refuse(2, outcome)?;
+    put(alloc, &mut fleet, 1, key, &[4, 4])?;
+    match change(alloc, &mut fleet, key, deletes)? {
+        Done::Failed => Ok(len_of(&fleet, 1, key)),
+        _ => Err(Memory),
+    }
 }
 
-/// What cloud 1 of 4 holds after puts of 58, 59 and 57 bytes, of which the second was stopped so.
-fn len_stopped(alloc: Global, key: &Key, fate: Torn) -> Result<Option<usize>, Memory>
+/// How long an object of 58 bytes is where the write after it was stopped so, whatever came later.
+fn len_stopped(alloc: Global, key: &Key, deletes: bool, fate: Torn) -> Result<Option<usize>, Memory>
     requires slots { Slots key.now }
 {
     let mut fleet = MemFleet::new(alloc, 4)?;
     put(alloc, &mut fleet, 1, key, &[4, 4])?;
-    put(alloc, &mut fleet, 1, key, &[5, 6, 7])?;
+    change(alloc, &mut fleet, key, deletes)?;
     put(alloc, &mut fleet, 1, key, &[8])?;
     if fleet.rounds() < 3 || fleet.length() != 3 || fleet.entries(1) != 1 {
-        return Ok(Some(0));
+        return Err(Memory);
     }
     let left = fleet.stopped(1, &[fate])?;
     Ok(len_of(&left, 1, key))
 }
 
 #[test]
-fn a_stopped_put_leaves_its_fate_and_none_comes_after_it(rt: HostRuntime) -> Result<(), Fail> {
+fn refused_and_stopped_writes_leave_what_was_told(rt: HostRuntime) -> Result<(), Fail> {
     let key = chunk(Name::read("a")?, 0);
-    for (fate, left) in lens_left() {
-        assert_eq!(rt; len_stopped(rt.alloc(), &key, fate)?, left);
+    for (outcome, put, deleted) in lens_left() {
+        assert_eq!(rt; len_after(rt.alloc(), &key, false, outcome)?, put);
+        assert_eq!(rt; len_after(rt.alloc(), &key, true, outcome)?, deleted);
+        assert_eq!(rt; len_stopped(rt.alloc(), &key, false, outcome)?, put);
+        assert_eq!(rt; len_stopped(rt.alloc(), &key, true, outcome)?, deleted);
     }
+    Ok(())
+}
+
+#[test]
+fn a_list_tells_what_puts_and_deletes_left(rt: HostRuntime) -> Result<(), Fail> {
+    let a = meta(Name::read("a")?);
+    let b = Name::read("b")?;
+    let mut fleet = MemFleet::new(rt.alloc(), 4)?;
+    fleet.refuse(4, Torn::Broken)?;
+    fleet.refuse(6, Torn::New)?;
+    put(rt.alloc(), &mut fleet, 2, &a, &[4, 4])?;
+    put(rt.alloc(), &mut fleet, 2, &chunk(b, 1), &[4, 4])?;
+    put(rt.alloc(), &mut fleet, 2, &chunk(b, 0), &[4, 4])?;
+    // there is none to break
+    assert_eq!(rt; delete(&mut fleet, 2, &meta(b)), Done::Failed);
+    assert_eq!(rt; delete(&mut fleet, 2, &chunk(b, 1)), Done::Ok);
+    assert!(rt; matches!(fleet.list(2), Err(CloudError::Failed)));
+    let list = fleet.list(2)?;
+    let keys = list.items();
+    assert_eq!(rt; keys.len(), 2);
+    // c-62-0-0, m-61-0
+    assert!(rt; keys[0].is_same(&chunk(b, 0)));
+    assert!(rt; keys[1].is_same(&a));
+    assert_eq!(rt; fleet.rounds(), 5);
+    assert_eq!(rt; fleet.length(), 7);
     Ok(())
 }

@@ -1,7 +1,7 @@
 use Rattle.std.proofs.Common.{ap}
 use Rattle.nc_cloud.specs.Fleet.{is_failed}
-use Rattle.nc_memory.proofs.RecordLaws.{not_failed}
-use Rattle.nc_memory.proofs.Serves.{gets_entries, gets_answered, gets_told, gets_held, gets_given_all, gets_recorded, round_exact, round_failed, round_grows, round_past, round_time}
+use Rattle.nc_memory.proofs.Counting.{not_failed}
+use Rattle.nc_memory.proofs.Serves.{gets_entries, gets_answered, gets_told, gets_held, gets_given_all, gets_recorded, round_exact, round_failed, round_grows, round_others, round_past, round_time}
 use Rattle.nc_memory.proofs.memory.MemFleetFleet.get_round.Goals as goal
 
 pub returns-clause-entries : goal.returns-clause-entries
@@ -24,6 +24,9 @@ returns-clause-held c = gets_held c.serve_gets.ensures
 
 pub returns-clause-grows : goal.returns-clause-grows
 returns-clause-grows c = round_grows (gets_recorded c.serve_gets.ensures)
+
+pub returns-clause-slips : goal.returns-clause-slips
+returns-clause-slips c = λ i cloud. round_others (gets_recorded c.serve_gets.ensures) cloud i
 
 pub returns-clause-gets : goal.returns-clause-gets
 returns-clause-gets c = gets_given_all c.serve_gets.ensures
