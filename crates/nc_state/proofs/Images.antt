@@ -12,7 +12,7 @@ use Rattle.nc_state.specs.Rounds.Left.{untouched, touched}
 use Rattle.nc_state.specs.Laws.{RoundIsImage}
 
 -- the test on keys tells
-key_eq-Decides : (a b : Key) → Decides (key_eq a b) (a ≡ b)
+pub key_eq-Decides : (a b : Key) → Decides (key_eq a b) (a ≡ b)
 key_eq-Decides (Meta n s) (Meta m t) = Decides-like _ (λ p. let e = p.0 in let f = p.1 in cc) (λ e. (cc, cc)) (Decides-and _ _ (bytes_eq-Decides n m) (Decides-eqb s t))
 key_eq-Decides (Chunk n s r) (Chunk m t q) =
     Decides-like _ (λ p. let e = p.0 in let f = p.1.0 in let g = p.1.1 in cc) (λ e. (cc, (cc, cc)))

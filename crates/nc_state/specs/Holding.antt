@@ -7,6 +7,7 @@ use Rattle.nc_name.specs.declared.key.Key.TheVariants as key
 use Rattle.nc_name.specs.Keys.{key_text}
 use Rattle.nc_frame.specs.Frames.{Sealed, frame}
 use Rattle.nc_meta.specs.declared.meta.Meta.{Meta}
+use Rattle.nc_meta.specs.declared.meta.Meta.TheVariants as meta
 use Rattle.nc_meta.specs.Metas.{IsMeta, Spells, generation_of, spelling}
 use Rattle.nc_cloud.specs.Contents.{Contents}
 use Rattle.nc_state.specs.Clouds.{Clouds}
@@ -77,6 +78,12 @@ pub record HeldByAll (n : ℕ) (F : Contents) (name : List ℕ) (m : Meta) : Typ
 -- the generation of the meta that counts, 0 where there is none
 abbrev pub top_generation : Option Meta → ℕ
 top_generation top = option_map_or generation_of top 0
+
+-- the meta that counts is that of a file
+abbrev pub IsLiveTop : Option Meta → Type 0
+IsLiveTop None = ⊥
+IsLiveTop (Some (meta.Live m)) = Unit {0}
+IsLiveTop (Some (meta.Gone generation)) = ⊥
 
 -- all clouds hold this meta, where there is one, and none a higher one
 abbrev pub IsSettledOn : ℕ → Contents → List ℕ → Option Meta → Type 0

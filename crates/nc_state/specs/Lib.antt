@@ -13,3 +13,4 @@ pub mod Laws
 pub mod ChunkLaws
 pub mod Commands
 pub mod Vaults
+pub mod Tidy

@@ -66,6 +66,6 @@ abbrev pub free_slot_of : Version → ℕ → ℕ
 free_slot_of x c = option_map_or (λ m. free_slot m c) (meta_of x) 0
 
 -- the version of this meta has its chunks in this slot of cloud c
-abbrev pub NamesSlot : Meta → ℕ → ℕ → Type 0
-NamesSlot (meta.Live m) c slot = slot ≡ slice_index m.slots c
-NamesSlot (meta.Gone generation) c slot = ⊥
+abbrev pub names_slot : Meta → ℕ → ℕ → Bool
+names_slot (meta.Live m) c slot = slice_index m.slots c == slot
+names_slot (meta.Gone generation) c slot = false

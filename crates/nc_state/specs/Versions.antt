@@ -1,6 +1,6 @@
 -- The versions of a file.
 use Rattle.std.specs.Option.{option_map_or}
-use Rattle.std.specs.Prelude.{ℕ, ◌≡◌, ◌+◌, ◌*◌, ◌<◌, Option, None, Some, List, [], IfSome, length, slice_index_or}
+use Rattle.std.specs.Prelude.{ℕ, ◌≡◌, ◌+◌, ◌*◌, ◌<◌, Bool, true, false, Option, None, Some, List, [], IfSome, length, slice_index_or}
 use Rattle.sha2.specs.Sha256.{sha256}
 use Rattle.nc_bytes.specs.Bytes.{AreBytes}
 use Rattle.nc_native.specs.Native.{combination}
@@ -33,6 +33,12 @@ abbrev pub value_of : Version → Option (List ℕ)
 value_of Never = None
 value_of (Removed generation) = None
 value_of (Stored m v) = Some v
+
+-- there is a file
+abbrev pub is_stored : Version → Bool
+is_stored Never = false
+is_stored (Removed generation) = false
+is_stored (Stored m v) = true
 
 -- A meta describes a file of these bytes on n clouds: it can be stored, the length is theirs, the code is MDS, the plans that
 -- it stores are witnesses, and each mark is the SHA-256 of its row's combination.

@@ -1,6 +1,6 @@
-ghost use Rattle.std.specs.Prelude.{◌≡◌, ◌+◌, ◌-◌, ◌^◌, ◌<◌, ◌≤◌, ◌%◌, ◌↔◌, IfSome, IfNone, IsTrue};
+ghost use Rattle.std.specs.Prelude.{◌≡◌, ◌+◌, ◌-◌, ◌^◌, ◌<◌, ◌≤◌, ◌%◌, IfSome, IfNone};
 ghost use Rattle.nc_meta.specs.Parts.{IsGeneration};
-ghost use Rattle.nc_state.specs.Right.{free_slot as free_slot_in, NamesSlot};
+ghost use Rattle.nc_state.specs.Right.{free_slot as free_slot_in, names_slot};
 
 use nc_meta::Meta;
 
@@ -18,7 +18,7 @@ pub fn slot_of(generation: u64) -> u8
 /// The slot beside this one.
 pub fn other_slot(slot: u8) -> u8
     requires { slot < 2 }
-    ensures { result + slot ≡ 1 }
+    ensures { result ≡ 1 - slot }
 {
     1 - slot
 }
@@ -56,7 +56,7 @@ pub fn free_slot(meta: &Meta, cloud: u8) -> u8
 /// Whether the version of this metadata has its chunks in this slot of cloud `cloud`.
 pub fn is_live(meta: &Meta, cloud: u8, slot: u8) -> bool
     requires { cloud < 10 }
-    ensures { IsTrue result ↔ NamesSlot meta.now cloud slot }
+    ensures { result ≡ names_slot meta.now cloud slot }
 {
     match meta {
         Meta::Live(live) => live.slots[cloud as usize] == slot,
