@@ -1,10 +1,13 @@
+pub mod Failures
 pub mod HeldMetas
 pub mod Judgements
 pub mod Views
 pub mod Looks
 pub mod Steps
 pub mod Seen
+pub mod Outside
 pub mod MetaJobs
 pub mod SettleWrites
 pub mod SettleStates
 pub mod SettleFaults
+pub mod SettleStops

@@ -3,7 +3,9 @@ pub mod Judging
 pub mod Rounds
 pub mod Looking
 pub mod Decisions
+pub mod Failing
 pub mod Tops
 pub mod Elsewhere
 pub mod MetaWrites
 pub mod Settling
+pub mod Stops

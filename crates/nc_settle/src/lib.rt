@@ -3,14 +3,13 @@
 
 mod asking;
 mod deciding;
+mod failing;
 mod judging;
 mod looking;
 mod metas;
 mod place;
 mod settled;
 mod settling;
-#[cfg(test)]
-mod tests;
 mod view;
 
 pub use deciding::{Conflict, Misplaced, Top};

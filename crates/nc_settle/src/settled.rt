@@ -1,5 +1,5 @@
-ghost use Rattle.std.specs.Prelude.{◌≡◌};
-ghost use Rattle.nc_state.specs.Holding.{top_generation};
+ghost use Rattle.std.specs.Prelude.{◌≡◌, ◌↔◌, IsTrue};
+ghost use Rattle.nc_state.specs.Holding.{IsLiveTop, top_generation};
 ghost use Rattle.nc_settle.specs.declared.settled.SettleFault.TheVariants.{Memory as NoMemory};
 
 use nc_meta::Meta;
@@ -21,6 +21,13 @@ impl Settled {
             None => 0,
             Some(meta) => meta.generation(),
         }
+    }
+
+    /// Whether there is a file.
+    pub fn is_live(&self) -> bool
+        ensures { IsTrue result ↔ IsLiveTop self.now.top }
+    {
+        matches!(&self.top, Some(Meta::Live(_)))
     }
 }
 

@@ -8,6 +8,7 @@ ghost use Rattle.nc_state.specs.Holding.{IsSettledOn, IsTopOrNone, Undisputed};
 ghost use Rattle.nc_state.specs.Vaults.{ChangesOnlyName};
 ghost use Rattle.nc_settle.specs.Elsewhere.{NothingMisplaced};
 ghost use Rattle.nc_settle.specs.Settling.{lacking_writes, lacks, AreLacking, HasSettleCause, IsSeenFault, SeesFault, SeesOne, SettleBegins, SettleComes, SettleRefuses};
+ghost use Rattle.nc_settle.specs.Stops.{RoundStopped, SettleStopped};
 ghost use Rattle.nc_settle.specs.Views.{width_of};
 
 use crate::looking::look;
@@ -38,10 +39,12 @@ pub fn settle<F: Fleet>(alloc: Global, fleet: &mut F, name: &Name) -> Result<Set
     ensures begins { F.tells → SettleBegins F.Fleet name.now fleet.old fleet.new }
     ensures comes { F.tells → IfOk result (SettleComes F.Fleet name.now fleet.old fleet.new) }
     ensures alone { F.tells → Keeps F.Fleet fleet.old fleet.new (ChangesOnlyName name.now (F.held fleet.old)) }
+    ensures stopped { IfErr result (SettleStopped F.Fleet fleet.old fleet.new) }
     ensures cause { IfErr result (HasSettleCause F.counts_exactly (F.faults fleet.old) (F.faults fleet.new)) }
     ensures clean { F.counts_exactly → OnOk result ((c : ℕ) → F.faults fleet.new c ≡ F.faults fleet.old c) }
     ensures clouds { F.clouds fleet.new ≡ F.clouds fleet.old }
     ensures grows { Grows (F.faults fleet.old) (F.faults fleet.new) }
+    ensures slips { F.slips fleet.new ≡ F.slips fleet.old }
     ensures gets { (c : ℕ) → F.chunk_gets fleet.new c ≡ F.chunk_gets fleet.old c }
     ensures time { GoesOn F.Fleet fleet.old fleet.new }
 {
@@ -103,9 +106,11 @@ fn spread<F: Fleet>(
     requires fits { IsMeta (F.clouds fleet.old) meta.now }
     ensures done { F.tells → OnOk result (Written (lacking_writes (F.clouds fleet.old) name.now view.now meta.now) (F.held fleet.old) (F.held fleet.new)) }
     ensures keeps { F.tells → Keeps F.Fleet fleet.old fleet.new (Image (lacking_writes (F.clouds fleet.old) name.now view.now meta.now) (F.held fleet.old)) }
+    ensures stopped { IfErr result (RoundStopped F.Fleet fleet.old fleet.new) }
     ensures counts { TellsCounts F.Fleet fleet.old fleet.new result }
     ensures clouds { F.clouds fleet.new ≡ F.clouds fleet.old }
     ensures grows { Grows (F.faults fleet.old) (F.faults fleet.new) }
+    ensures slips { F.slips fleet.new ≡ F.slips fleet.old }
     ensures gets { F.chunk_gets fleet.new ≡ F.chunk_gets fleet.old }
     ensures time { GoesOn F.Fleet fleet.old fleet.new }
 {

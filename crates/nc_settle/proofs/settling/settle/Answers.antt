@@ -1,8 +1,8 @@
-use Rattle.std.proofs.Common.{◌<◌, ◌≤◌, ◌∙◌, ℕ, sym, ap, subst, arith}
+use Rattle.std.proofs.Common.{◌<◌, ◌≤◌, ◌∙◌, ℕ, refl, sym, ap, subst, arith}
 use Rattle.nc_cloud.specs.Contents.{Contents}
 use Rattle.nc_cloud.specs.Deciding.{HasCause, IsFirstToRise}
 use Rattle.nc_cloud.specs.declared.deciding.RoundFault.{RoundFault}
-use Rattle.nc_cloud.specs.declared.deciding.RoundFault.TheVariants.{Cloud}
+use Rattle.nc_cloud.specs.declared.deciding.RoundFault.TheVariants.{Cloud, Memory}
 use Rattle.nc_cloud.proofs.Counts.{later_round}
 use Rattle.nc_cloud.proofs.Time.{goes_then}
 use Rattle.nc_state.specs.Holding.{HeldByNone}
@@ -11,6 +11,10 @@ use Rattle.nc_settle.proofs.Seen.{meta_fits, none_held, nothing_misplaced, undis
 use Rattle.nc_settle.proofs.SettleFaults.{refused_held, seen_cause, seen_clean}
 use Rattle.nc_settle.proofs.SettleStates.{looked_begins, none_comes, spread_alone, spread_begins, spread_comes, spread_settled}
 use Rattle.nc_settle.proofs.SettleWrites.{seen_top}
+use Rattle.nc_settle.specs.Stops.{RoundStopped}
+use Rattle.nc_settle.specs.Stops.SettleStopped.{looking, writing}
+use Rattle.nc_settle.specs.declared.settled.SettleFault.TheVariants as fault
+use Rattle.nc_settle.proofs.SettleStops.{look_stopped}
 use Rattle.nc_settle.proofs.settling.settle.Goals as goal
 
 pub returns-in_err-view-clause-begins : goal.returns-in_err-view-clause-begins
@@ -153,3 +157,27 @@ returns-in-Err-Cloud-clause-cause g c =
     (later_round g.F.Fleet.counts_exactly (g.F.Fleet.faults c.args.fleet.now) (g.F.Fleet.faults c.look.new.fleet) (g.F.Fleet.faults c.spread.new.fleet) c.look.ensures.looked.grows
     (seen_clean _ _ c.in_ok-view.ensures.width _ _ _ c.in_ok-view.ensures.failed c.in_ok-view.ensures.exact c.in-Ok.ensures.one.answered) _ c.in-Err-Cloud.ensures.counts.cause) in
     subst (λ (k : ℕ). IsFirstToRise g.F.Fleet.counts_exactly (g.F.Fleet.faults c.args.fleet.now) (g.F.Fleet.faults c.spread.new.fleet) k) (sym c.in-Err-Cloud.cloud-is) all
+
+pub returns-in-Ok-spread-clause-slips : goal.returns-in-Ok-spread-clause-slips
+returns-in-Ok-spread-clause-slips g c = c.spread.ensures.slips ∙ c.look.ensures.looked.slips
+
+pub returns-in-Err-Cloud-clause-slips : goal.returns-in-Err-Cloud-clause-slips
+returns-in-Err-Cloud-clause-slips g c = c.spread.ensures.slips ∙ c.look.ensures.looked.slips
+
+pub returns-clause-slips : goal.returns-clause-slips
+returns-clause-slips g c = c.spread.ensures.slips ∙ c.look.ensures.looked.slips
+
+pub returns-in_err-view-clause-stopped : goal.returns-in_err-view-clause-stopped
+returns-in_err-view-clause-stopped g c = look_stopped _ c.look.ensures.looked
+
+pub returns-in-Err-clause-stopped : goal.returns-in-Err-clause-stopped
+returns-in-Err-clause-stopped g c = looking c.look.ensures.looked
+
+pub returns-in-Err-Cloud-clause-stopped : goal.returns-in-Err-Cloud-clause-stopped
+returns-in-Err-Cloud-clause-stopped g c = writing c.look.new.fleet (Cloud c.in-Err-Cloud.cloud) c.look.ensures.looked
+    (subst (λ (f : RoundFault). RoundStopped g.F.Fleet c.look.new.fleet c.spread.new.fleet f) c.in-Err-Cloud.field-0-is c.in-Err-Cloud.ensures.stopped)
+    (ap (λ (k : ℕ). fault.Cloud k) c.in-Err-Cloud.cloud-is)
+
+pub returns-clause-stopped : goal.returns-clause-stopped
+returns-clause-stopped g c = writing c.look.new.fleet Memory c.look.ensures.looked
+    (subst (λ (f : RoundFault). RoundStopped g.F.Fleet c.look.new.fleet c.spread.new.fleet f) c.in-Err-Memory.field-0-is c.in-Err-Memory.ensures.stopped) refl
