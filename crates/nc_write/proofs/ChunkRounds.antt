@@ -68,7 +68,7 @@ other_cloud None old left place differs image = ap (λ (s : Store). s place) ima
 other_cloud (Some p) old left place differs image = image.others place (differs p refl)
 
 -- an object that no write of the round touches
-untouched_by : (ps : List Write) (F G : Contents) (c : ℕ) (place : Key) → ((p : Write) → write_at ps c ≡ Some p → place ≢ p.key) → Image ps F G → G c place ≡ F c place
+pub untouched_by : (ps : List Write) (F G : Contents) (c : ℕ) (place : Key) → ((p : Write) → write_at ps c ≡ Some p → place ≢ p.key) → Image ps F G → G c place ≡ F c place
 untouched_by ps F G c place differs image = other_cloud (write_at ps c) (F c) (G c) place differs (image.each c)
 
 -- a right object that stays is right

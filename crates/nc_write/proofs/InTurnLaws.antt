@@ -17,6 +17,7 @@ pub record RoundsKeep {A : Type 0} (F : FleetGhosts A) (old new : A) (result : R
   pub counts : TellsCounts F old new result
   pub clouds : F.clouds new ≡ F.clouds old
   pub grows : Grows (F.faults old) (F.faults new)
+  pub slips : F.slips new ≡ F.slips old
   pub gets : F.chunk_gets new ≡ F.chunk_gets old
   pub time : GoesOn F old new
 
@@ -43,10 +44,10 @@ module _ {A : Type 0} {F : FleetGhosts A} where
   keep_none {old} result same is =
       subst (λ (e : A). RoundsKeep F old e result) (sym same)
       (subst (λ (r : Result (Unit {0}) RoundFault). RoundsKeep F old old r) (sym is)
-      (record { counts = record { cause = tt; clean = λ exact c. refl }; clouds = refl; grows = λ c. omega arith; gets = refl; time = goes_none old }))
+      (record { counts = record { cause = tt; clean = λ exact c. refl }; clouds = refl; grows = λ c. omega arith; slips = refl; gets = refl; time = goes_none old }))
 
   of_round : {ps : List Write} {ended : List Job} {old mid : A} {answer : Result (Unit {0}) RoundFault} → Wrote F ps ended old mid answer → RoundsKeep F old mid answer
-  of_round w = record { counts = w.counts; clouds = w.clouds; grows = w.grows; gets = w.gets; time = w.time }
+  of_round w = record { counts = w.counts; clouds = w.clouds; grows = w.grows; slips = w.slips; gets = w.gets; time = w.time }
 
   -- one round, and the rest by its answer
   keep_first : {old mid new : A} (rest : Type 0) (result answer : Result (Unit {0}) RoundFault) → RoundsKeep F old mid answer → AfterRound answer rest mid new result
@@ -57,6 +58,7 @@ module _ {A : Type 0} {F : FleetGhosts A} where
         counts = counts_later result first.grows first.counts.clean later.counts;
         clouds = later.clouds ∙ first.clouds;
         grows = λ c. let low : F.faults old c ≤ F.faults mid c = first.grows c in let high : F.faults mid c ≤ F.faults new c = later.grows c in omega (arith, low, high);
+        slips = later.slips ∙ first.slips;
         gets = later.gets ∙ first.gets;
         time = goes_then first.time later.time;
       }
@@ -67,6 +69,19 @@ module _ {A : Type 0} {F : FleetGhosts A} where
   rounds_keep [] old new result turn = keep_none result turn.0 turn.1
   rounds_keep (ps ∷ rounds) old new result turn =
       keep_first (WroteInTurn F rounds turn.mid new result) result turn.answer (of_round turn.wrote) turn.then (λ rest. rounds_keep rounds turn.mid new result rest)
+
+-- ---- one round
+
+one_after : {A : Type 0} {F : FleetGhosts A} {ps : List Write} {ended : List Job} {old mid new : A} (result answer : Result (Unit {0}) RoundFault) → Wrote F ps ended old mid answer
+    → AfterRound answer ((new ≡ mid) × (result ≡ Ok tt)) mid new result → Wrote F ps ended old new result
+one_after {F = F} {ps = ps} {ended = ended} {old = old} {mid = mid} {new = new} result (Ok done) wrote then =
+    subst (λ e. Wrote F ps ended old e result) (sym then.0) (subst (λ (r : Result (Unit {0}) RoundFault). Wrote F ps ended old mid r) (sym then.1) wrote)
+one_after {F = F} {ps = ps} {ended = ended} {old = old} {mid = mid} {new = new} result (Err fault) wrote then =
+    subst (λ e. Wrote F ps ended old e result) (sym then.0) (subst (λ (r : Result (Unit {0}) RoundFault). Wrote F ps ended old mid r) (sym then.1) wrote)
+
+-- a run of one round is that round
+pub one_round : {A : Type 0} {F : FleetGhosts A} (ps : List Write) (old new : A) (result : Result (Unit {0}) RoundFault) → WroteInTurn F (ps ∷ []) old new result → (ended : List Job) × Wrote F ps ended old new result
+one_round ps old new result turn = (turn.ended, one_after result turn.answer turn.wrote turn.then)
 
 -- ---- objects of other names
 

@@ -3,7 +3,11 @@ pub mod DoingLaws
 pub mod InTurnLaws
 pub mod MarkLaws
 pub mod PreparedLaws
+pub mod PutDone
 pub mod PuttingLaws
+pub mod RemoveDone
 pub mod RowLaws
 pub mod SealingLaws
+pub mod TidyLaws
+pub mod TidyTurns
 pub mod VersionRounds

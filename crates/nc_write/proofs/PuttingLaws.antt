@@ -37,7 +37,7 @@ free_pair : (m : Meta) (c : ℕ) → free_slot m c < 2
 free_pair (meta.Live m) c = bit (slice_index m.slots c == 0)
 free_pair (meta.Gone generation) c = omega arith
 
-after_pair : (top : Option Meta) (c : ℕ) → slot_after top c < 2
+pub after_pair : (top : Option Meta) (c : ℕ) → slot_after top c < 2
 after_pair None c = omega arith
 after_pair (Some m) c = free_pair m c
 

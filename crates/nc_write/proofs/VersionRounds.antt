@@ -95,7 +95,7 @@ pub record WroteAll {A : Type 0} (F : FleetGhosts A) (w : VersionWrites) (old ne
   pub done_2 : Written (writes w.second.items) (F.held first) (F.held second)
   pub done_3 : Written (writes w.metas.items) (F.held second) (F.held new)
 
-not_ok : {T E : Type 0} (t : T) (e : E) (result : Result T E) → result ≡ Ok t → result ≡ Err e → ⊥
+pub not_ok : {T E : Type 0} (t : T) (e : E) (result : Result T E) → result ≡ Ok t → result ≡ Err e → ⊥
 not_ok t e result ok err = let wrong : Ok t ≡ Err e = sym ok ∙ err in cc
 
 module _ {A : Type 0} (F : FleetGhosts A) (told : F.tells) (w : VersionWrites) where

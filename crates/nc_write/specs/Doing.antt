@@ -1,4 +1,4 @@
--- What a put does.
+-- What a command that writes does.
 use Rattle.std.specs.Prelude.{ℕ, ◌≡◌, ◌-◌, ◌^◌, Option, Some, List, Result, Ok, Err}
 use Rattle.nc_meta.specs.declared.meta.Meta.{Meta}
 use Rattle.nc_meta.specs.declared.meta.Meta.TheVariants as meta
@@ -6,6 +6,7 @@ use Rattle.nc_nextloss.specs.GoodCodes.{GoodParts}
 use Rattle.nc_cloud.specs.declared.deciding.RoundFault.{RoundFault}
 use Rattle.nc_cloud.specs.declared.deciding.RoundFault.TheVariants as round
 use Rattle.nc_cloud.specs.declared.fleet.Fleet.{Ghosts as FleetGhosts}
+use Rattle.nc_cloud.specs.Contents.{Write}
 use Rattle.nc_cloud.specs.Deciding.{IsFirstToRise}
 use Rattle.nc_settle.specs.declared.settled.Settled.{Settled}
 use Rattle.nc_state.specs.Holding.{top_generation}
@@ -25,13 +26,20 @@ answer_by m (Ok done) = Ok (record { top = Some m })
 answer_by m (Err (round.Cloud c)) = Err (fault.Cloud c)
 answer_by m (Err round.Memory) = Err fault.Memory
 
--- A put of the file v after this metadata, by this code: no generation was left, or no memory was found for its writes, and
--- nothing was done; or its writes were prepared, and then made in turn.
-pub data PutDid {A : Type 0} (F : FleetGhosts A) (n : ℕ) (name : List ℕ) (top : Option Meta) (good : GoodParts) (v : List ℕ) (old new : A) (result : Result Settled WriteFault) : Type 0 where
-  was_worn : IsWorn top → new ≡ old → result ≡ Err fault.Worn → PutDid F n name top good v old new result
-  unprepared : (IsWorn top → ⊥) → new ≡ old → result ≡ Err fault.Memory → PutDid F n name top good v old new result
-  in_turn : (IsWorn top → ⊥) → (w : VersionWrites) (answer : Result (Unit {0}) RoundFault) → IsPutOf n name top good v w → WroteInTurn F (rounds_of w) old new answer
-      → result ≡ answer_by (meta.Live w.live) answer → PutDid F n name top good v old new result
+-- A command that writes after this metadata: no generation was left, or no memory was found for its writes, and nothing was
+-- done; or its writes were prepared, rounds whose last writes this metadata, and then made in turn.
+pub data WriteDid {A : Type 0} (F : FleetGhosts A) (top : Option Meta) (Prepares : Meta → List (List Write) → Type 0) (old new : A) (result : Result Settled WriteFault) : Type 0 where
+  was_worn : IsWorn top → new ≡ old → result ≡ Err fault.Worn → WriteDid F top Prepares old new result
+  unprepared : (IsWorn top → ⊥) → new ≡ old → result ≡ Err fault.Memory → WriteDid F top Prepares old new result
+  in_turn : (IsWorn top → ⊥) → (m : Meta) (rounds : List (List Write)) (answer : Result (Unit {0}) RoundFault) → Prepares m rounds → WroteInTurn F rounds old new answer
+      → result ≡ answer_by m answer → WriteDid F top Prepares old new result
+
+-- the rounds of a put of the file v after this metadata, by this code
+pub record PreparesPut (n : ℕ) (name : List ℕ) (top : Option Meta) (good : GoodParts) (v : List ℕ) (m : Meta) (rounds : List (List Write)) : Type 0 where
+  pub version : VersionWrites
+  pub of : IsPutOf n name top good v version
+  pub is_meta : m ≡ meta.Live version.live
+  pub are_rounds : rounds ≡ rounds_of version
 
 -- why a command that writes wasn't done
 abbrev pub HasWriteCause : Type 0 → (ℕ → ℕ) → (ℕ → ℕ) → WriteFault → Type 0

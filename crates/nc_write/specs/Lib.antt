@@ -3,6 +3,8 @@ pub mod Doing
 pub mod InTurn
 pub mod Marks
 pub mod Putting
+pub mod Removing
 pub mod Replacing
 pub mod Sealing
+pub mod Tidying
 pub mod Writes

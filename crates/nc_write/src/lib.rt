@@ -1,19 +1,24 @@
 //! Files written over what their names were settled on.
 #![tactic(auto)]
 
+mod answering;
+mod erasing;
 mod fault;
 mod live;
 mod marks;
+mod part;
 mod preparing;
 mod putting;
+mod removing;
 mod rows;
 mod sealing;
-#[cfg(test)]
-mod tests;
+mod tidying;
 mod writing;
 
 pub use fault::WriteFault;
 pub use preparing::prepare;
 pub use putting::put;
+pub use removing::remove;
 pub use sealing::{Placed, VersionWrites, seal_row, seal_version};
+pub use tidying::tidy;
 pub use writing::write_version;

@@ -53,9 +53,10 @@ fn next_slots(width: u8, top: &Option<Meta>) -> [u8; 10]
 }
 
 /// Where the chunks of a cloud go after this metadata: beside those that it names.
-fn next_slot(top: &Option<Meta>, cloud: u8) -> u8
+pub fn next_slot(top: &Option<Meta>, cloud: u8) -> u8
     requires { cloud < 10 }
-    ensures { result ≡ slot_after top.now cloud }
+    ensures is { result ≡ slot_after top.now cloud }
+    ensures pair { result < 2 }
 {
     match top {
         None => 0,

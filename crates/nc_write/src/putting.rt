@@ -7,13 +7,14 @@ ghost use Rattle.nc_cloud.specs.Stopping.{GoesOn, Keeps};
 ghost use Rattle.nc_state.specs.Vaults.{ChangesOnlyName, MayBegin, MayDo};
 ghost use Rattle.nc_state.specs.Versions.Version.{Stored};
 ghost use Rattle.nc_write.specs.declared.fault.WriteFault.TheVariants.{Worn};
-ghost use Rattle.nc_write.specs.Doing.{HasWriteCause, IsWorn, PutDid};
+ghost use Rattle.nc_write.specs.Doing.{HasWriteCause, IsWorn, PreparesPut, WriteDid};
 ghost use Rattle.nc_write.specs.Putting.{IsPutBy, IsStored, put_meta};
 
+use crate::answering::answer_of;
 use crate::fault::WriteFault;
 use crate::preparing::prepare;
 use crate::writing::write_version;
-use nc_cloud::{Fleet, RoundFault};
+use nc_cloud::Fleet;
 use nc_meta::Meta;
 use nc_name::Name;
 use nc_nextloss::GoodCode;
@@ -41,7 +42,7 @@ pub fn put<R: Threads + Sync, F: Fleet>(
     requires few_workers { workers ≤ 16 }
     requires short { length bytes.now ≤ 2 ^ 26 }
     requires fits { IfSome before.now.top (IsMeta (F.clouds fleet.old)) }
-    ensures did { PutDid F.Fleet (F.clouds fleet.old) name.now before.now.top good.now bytes.now fleet.old fleet.new result }
+    ensures did { WriteDid F.Fleet before.now.top (PreparesPut (F.clouds fleet.old) name.now before.now.top good.now bytes.now) fleet.old fleet.new result }
     ensures made { IfOk result (λ s. s.top ≡ Some (LiveMeta (put_meta (F.clouds fleet.old) before.now.top good.now bytes.now))) }
     ensures fits { IfOk result (λ s. IfSome s.top (IsMeta (F.clouds fleet.old))) }
     ensures stored { F.tells → OnOk result (IsStored (F.clouds fleet.old) (F.held fleet.new) name.now (Stored (put_meta (F.clouds fleet.old) before.now.top good.now bytes.now) bytes.now)) }
@@ -54,6 +55,7 @@ pub fn put<R: Threads + Sync, F: Fleet>(
     ensures clean { F.counts_exactly → OnOk result ((c : ℕ) → F.faults fleet.new c ≡ F.faults fleet.old c) }
     ensures clouds { F.clouds fleet.new ≡ F.clouds fleet.old }
     ensures grows { Grows (F.faults fleet.old) (F.faults fleet.new) }
+    ensures slips { F.slips fleet.new ≡ F.slips fleet.old }
     ensures gets { F.chunk_gets fleet.new ≡ F.chunk_gets fleet.old }
     ensures time { GoesOn F.Fleet fleet.old fleet.new }
 {
@@ -78,7 +80,7 @@ fn put_in_turn<R: Threads + Sync, F: Fleet>(
     requires few_workers { workers ≤ 16 }
     requires short { length bytes.now ≤ 2 ^ 26 }
     requires fits { IfSome before.now.top (IsMeta (F.clouds fleet.old)) }
-    ensures did { PutDid F.Fleet (F.clouds fleet.old) name.now before.now.top good.now bytes.now fleet.old fleet.new result }
+    ensures did { WriteDid F.Fleet before.now.top (PreparesPut (F.clouds fleet.old) name.now before.now.top good.now bytes.now) fleet.old fleet.new result }
 {
     let Some(generation) = next_generation(before.generation()) else {
         return Err(WriteFault::Worn);
@@ -97,11 +99,6 @@ fn put_in_turn<R: Threads + Sync, F: Fleet>(
         Err(_) => return Err(WriteFault::Memory),
     };
     let live = version.live;
-    match write_version(fleet, version) {
-        Ok(()) => Ok(Settled {
-            top: Some(Meta::Live(live)),
-        }),
-        Err(RoundFault::Cloud(cloud)) => Err(WriteFault::Cloud(cloud)),
-        Err(RoundFault::Memory) => Err(WriteFault::Memory),
-    }
+    let answer = write_version(fleet, version);
+    answer_of(answer, Meta::Live(live))
 }

@@ -2,11 +2,11 @@
 ghost use Rattle.std.specs.Prelude.{◌≡◌, ◌<◌, ◌≤◌, ◌++◌, ◌∷◌, [], ℕ, List, All, IfOk, OnOk};
 ghost use Rattle.nc_name.specs.Keys.{key_text, Slots};
 ghost use Rattle.nc_frame.specs.Frames.{HasFrame, Whole};
-ghost use Rattle.nc_meta.specs.Metas.{IsLive};
+ghost use Rattle.nc_meta.specs.Metas.{IsLive, IsMeta};
 ghost use Rattle.nc_cloud.specs.Deciding.{AreAscending};
 ghost use Rattle.nc_cloud.specs.Fleet.{write};
 ghost use Rattle.nc_write.specs.declared.sealing.Placed.{Placed as PlacedChunk};
-ghost use Rattle.nc_write.specs.Writes.{AreChunkWrites, AreVersionWrites, chunk_key as chunk_key_of, clouds_of, sealed_write};
+ghost use Rattle.nc_write.specs.Writes.{AreChunkWrites, AreMetaWrites, AreVersionWrites, chunk_key as chunk_key_of, clouds_of, sealed_write};
 
 use nc_cloud::{Done, Job};
 use nc_frame::seal;
@@ -53,13 +53,24 @@ pub fn seal_version(
 {
     let first = seal_row(alloc, width, name, live, 0, zeros)?;
     let second = seal_row(alloc, width, name, live, 1, ones)?;
-    let metas = meta_jobs(alloc, width, name, &Meta::Live(*live), &[true; 10])?;
+    let metas = metas_for(alloc, width, name, &Meta::Live(*live))?;
     Ok(VersionWrites {
         live: *live,
         first,
         second,
         metas,
     })
+}
+
+/// The writes of this metadata, one on each cloud.
+pub fn metas_for(alloc: Global, width: u8, name: &Name, meta: &Meta) -> Result<Vec<Job>, Memory>
+    requires wide { 4 ≤ width }
+    requires narrow { width ≤ 10 }
+    requires fits { IsMeta width meta.now }
+    ensures { IfOk result (λ jobs. AreMetaWrites width name.now meta.now jobs.items) }
+{
+    let jobs = meta_jobs(alloc, width, name, meta, &[true; 10])?;
+    Ok(jobs)
 }
 
 /// Seals chunks as those of a row of a version. Each is let go as soon as its frame is made.

@@ -1,28 +1,29 @@
-use Rattle.std.proofs.Common.{ℕ, List, subst}
+use Rattle.std.proofs.Common.{List, ℕ, subst}
 use Rattle.nc_name.specs.Names.{IsName}
-use Rattle.nc_write.proofs.DoingLaws.{did_alone, did_begin, did_do, did_keep, did_made, did_fit, did_not_worn, did_stored, did_worn}
+use Rattle.nc_write.proofs.DoingLaws.{did_keep, did_not_worn, did_worn}
+use Rattle.nc_write.proofs.PutDone.{put_alone, put_begins, put_does, put_fits, put_made, put_stored}
 use Rattle.nc_write.proofs.putting.put.Goals as goal
 
 pub returns-clause-did : goal.returns-clause-did
 returns-clause-did g c = c.put_in_turn.ensures.did
 
 pub returns-clause-made : goal.returns-clause-made
-returns-clause-made g c = did_made c.put_in_turn.ensures.did
+returns-clause-made g c = put_made _ _ _ _ _ c.put_in_turn.ensures.did
 
 pub returns-clause-fits : goal.returns-clause-fits
-returns-clause-fits g c = did_fit c.put_in_turn.ensures.did
+returns-clause-fits g c = put_fits _ _ _ _ _ c.put_in_turn.ensures.did
 
 pub returns-clause-stored : goal.returns-clause-stored
-returns-clause-stored g c told = did_stored told c.put_in_turn.ensures.did
+returns-clause-stored g c told = put_stored _ _ _ _ _ c.put_in_turn.ensures.did told
 
 pub returns-clause-begins : goal.returns-clause-begins
-returns-clause-begins g c told = did_begin told (subst (λ (l : List ℕ). IsName l) c.bytes-told.ensures.same c.bytes-told.ensures.name) c.put_in_turn.ensures.did
+returns-clause-begins g c told = put_begins _ _ _ _ _ c.put_in_turn.ensures.did told (subst (λ (l : List ℕ). IsName l) c.bytes-told.ensures.same c.bytes-told.ensures.name)
 
 pub returns-clause-does : goal.returns-clause-does
-returns-clause-does g c told = did_do told (subst (λ (l : List ℕ). IsName l) c.bytes-told.ensures.same c.bytes-told.ensures.name) c.put_in_turn.ensures.did
+returns-clause-does g c told = put_does _ _ _ _ _ c.put_in_turn.ensures.did told (subst (λ (l : List ℕ). IsName l) c.bytes-told.ensures.same c.bytes-told.ensures.name)
 
 pub returns-clause-alone : goal.returns-clause-alone
-returns-clause-alone g c told = did_alone told c.put_in_turn.ensures.did
+returns-clause-alone g c told = put_alone _ _ _ _ _ c.put_in_turn.ensures.did told
 
 pub returns-clause-worn : goal.returns-clause-worn
 returns-clause-worn g c worn = did_worn c.put_in_turn.ensures.did worn
@@ -41,6 +42,9 @@ returns-clause-clouds g c = (did_keep c.put_in_turn.ensures.did).clouds
 
 pub returns-clause-grows : goal.returns-clause-grows
 returns-clause-grows g c = (did_keep c.put_in_turn.ensures.did).grows
+
+pub returns-clause-slips : goal.returns-clause-slips
+returns-clause-slips g c = (did_keep c.put_in_turn.ensures.did).slips
 
 pub returns-clause-gets : goal.returns-clause-gets
 returns-clause-gets g c = (did_keep c.put_in_turn.ensures.did).gets

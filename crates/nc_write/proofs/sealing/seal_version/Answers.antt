@@ -1,7 +1,5 @@
-use Rattle.std.proofs.Common.{ℕ, List, ◌∙◌, subst, sym}
+use Rattle.std.proofs.Common.{ℕ, List, subst, sym}
 use Rattle.nc_cloud.specs.Deciding.{AreAscending}
-use Rattle.nc_meta.specs.declared.meta.Meta.TheVariants as meta
-use Rattle.nc_settle.proofs.MetaJobs.{metas_on_all}
 use Rattle.nc_write.proofs.SealingLaws.{within_of}
 use Rattle.nc_write.proofs.sealing.seal_version.Goals as goal
 
@@ -17,5 +15,5 @@ returns-clause-made c = record {
   same = c.requires.same;
   row_0 = c.in_ok-first.ensures;
   row_1 = c.in_ok-second.ensures;
-  metas_are = record { writes_are = c.in_ok-metas.ensures.writes ∙ metas_on_all c.args.width c.args.name.now (meta.Live c.args.live.now) c.requires.narrow; whole = c.in_ok-metas.ensures.whole };
+  metas_are = c.in_ok-metas.ensures;
 }
