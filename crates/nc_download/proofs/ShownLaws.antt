@@ -35,6 +35,7 @@ use Rattle.nc_download.specs.OnVaults.{FetchShows}
 use Rattle.nc_download.specs.declared.fetching.FetchFault.{FetchFault}
 use Rattle.nc_download.specs.declared.fetching.FetchFault.TheVariants.{NoFile, Cloud, Short, Conflict, Misplaced, Unsound, Memory}
 use Rattle.nc_download.proofs.ReadLaws.{good_row, not_bad}
+use Rattle.nc_download.proofs.ViewLaws.{stored_of}
 
 -- the bytes whose payload this is
 held_payload : (w : Wanted) (held : Option (List ℕ)) (payload : List ℕ) → HoldsPayload w held payload → (bytes : List ℕ) × (held ≡ Some bytes) × Sealed bytes w.cloud w.width (key_text w.key) payload
@@ -125,11 +126,6 @@ pub record IsFileOf (n : ℕ) (name : List ℕ) (F : Contents) (D : Clouds) (x :
   pub is : x ≡ Stored m bytes
   pub valid : IsValidFor n m bytes
   pub places : PlacesStand n F D name (Stored m bytes)
-
-stored_of : (x : Version) (m : LiveMeta) → meta_of x ≡ Some (Live m) → (v : List ℕ) × (x ≡ Stored m v)
-stored_of Never m e = absurd cc
-stored_of (Removed generation) m e = absurd cc
-stored_of (Stored k v) m e = let same : k ≡ m = cc in (v, ap (λ (l : LiveMeta). Stored l v) same)
 
 removed_has_none : (x : Version) (generation : ℕ) → meta_of x ≡ Some (Gone generation) → value_of x ≡ None
 removed_has_none Never generation e = refl

@@ -1,7 +1,7 @@
 ghost use Rattle.std.specs.Prelude.{◌<◌, ◌≡◌, ◌≤◌, ℕ, IfErr, IfOk, OnOk};
 ghost use Rattle.nc_download.specs.Fetching.{Fetches, HasFetchCause, ReadsNoChunk};
 ghost use Rattle.nc_download.specs.OnVaults.{FetchShows};
-ghost use Rattle.nc_download.specs.Showing.{SeesNoFile, SeesNoMeta, ShowsFile};
+ghost use Rattle.nc_download.specs.Showing.{SeesNoFile, ShowsFile};
 ghost use Rattle.nc_download.specs.declared.fetching.FetchFault.TheVariants.{Memory as NoMemory};
 ghost use Rattle.nc_cloud.specs.Deciding.{OnlyLooked};
 ghost use Rattle.nc_cloud.specs.Stopping.{Stops};
@@ -9,6 +9,7 @@ ghost use Rattle.nc_state.specs.Vaults.{ForEachVault};
 
 use crate::reading::{ReadFault, read_file};
 use crate::short::ShortList;
+use crate::showing::nothing;
 use nc_cloud::Fleet;
 use nc_mds::{Verdict, check};
 use nc_meta::{Live, Meta};
@@ -86,7 +87,7 @@ pub fn fetch<R: Threads + Sync, F: Fleet>(
     ensures stops { Stops F.Fleet fleet.old fleet.new (λ G. G ≡ F.held fleet.old) }
 {
     let view = look(alloc, fleet, name)?;
-    let live = match shown(&view) {
+    let live = match shown_by_all(&view) {
         Ok(live) => live,
         Err(fault) => return Err(fault),
     };
@@ -101,8 +102,8 @@ pub fn fetch<R: Threads + Sync, F: Fleet>(
     }
 }
 
-/// The metadata of the file that a view shows.
-fn shown(view: &View) -> Result<Live, FetchFault>
+/// The metadata of the file that a view shows in which no cloud failed.
+fn shown_by_all(view: &View) -> Result<Live, FetchFault>
     ensures shown { IfOk result (ShowsFile view.now) }
     ensures fault { IfErr result (SeesNoFile view.now) }
 {
@@ -122,19 +123,5 @@ fn shown(view: &View) -> Result<Live, FetchFault>
     match top.meta {
         Meta::Live(live) => Ok(*live),
         Meta::Gone { .. } => Err(FetchFault::NoFile),
-    }
-}
-
-/// Why no file is shown where no cloud holds metadata of its own.
-fn nothing(view: &View) -> FetchFault
-    ensures { SeesNoMeta view.now result }
-{
-    match view.misplaced() {
-        Some(misplaced) => FetchFault::Misplaced {
-            cloud: misplaced.cloud,
-            said_cloud: misplaced.said_cloud,
-            said_width: misplaced.said_width,
-        },
-        None => FetchFault::NoFile,
     }
 }

@@ -3,13 +3,19 @@
 
 mod asks;
 mod fetching;
+mod finding;
 mod judging;
+mod listing;
 mod reading;
 mod short;
+mod showing;
 mod sorting;
 
 pub use asks::wanted;
 pub use fetching::{FetchFault, fetch};
+pub use finding::find;
 pub use judging::{Wanted, judge};
+pub use listing::{ListStop, find_all};
 pub use reading::{ReadFault, read_file};
 pub use short::{Bad, How, ShortList, Why};
+pub use showing::shown;
