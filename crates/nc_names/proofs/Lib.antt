@@ -1,0 +1,3 @@
+pub mod AllNames
+mod Lists
+mod SortedNames
