@@ -1,0 +1,15 @@
+use Rattle.std.proofs.Common.{rules, refl, ap, ◌∷◌, [], List, ℕ, ◌≡◌, codes}
+use Rattle.nc_words.specs.declared.act.Act.TheVariants as act
+use Rattle.nc_words.proofs.OneMeaning.{bad_name}
+use Rattle.nc_words.proofs.words.read_pair.Goals.{in-put, in-get, in-rm, in-stat}
+use Rattle.nc_words.proofs.words.read_pair.Goals as goal
+
+pub returns-in-Err-clause-fault : goal.returns-in-Err-clause-fault
+returns-in-Err-clause-fault c =
+    let text : List ℕ = c.args.text.now in
+    elim c.match-word.branch [
+      | in-put w ↦ bad_name _ _ text (act.Put text) _ refl (ap (λ (word : List ℕ). word ∷ text ∷ []) w.in-put.is) (search rules)
+      | in-get w ↦ bad_name _ _ text (act.Get text) _ refl (ap (λ (word : List ℕ). word ∷ text ∷ []) w.in-get.is) (search rules)
+      | in-rm w ↦ bad_name _ _ text (act.Remove text) _ refl (ap (λ (word : List ℕ). word ∷ text ∷ []) w.in-rm.is) (search rules)
+      | in-stat w ↦ bad_name _ _ text (act.Stat text) _ refl (ap (λ (word : List ℕ). word ∷ text ∷ []) w.in-stat.is) (search rules)
+    ]

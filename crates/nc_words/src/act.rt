@@ -1,0 +1,33 @@
+use crate::setting::Setting;
+use nc_name::Name;
+
+/// What is asked of a vault.
+#[derive(Clone, Copy, Debug)]
+pub enum Act {
+    /// Stores a file under this name.
+    Put(Name),
+    /// Gives the file of this name.
+    Get(Name),
+    /// Removes the file of this name.
+    Remove(Name),
+    /// Tells all files.
+    List,
+    /// Tells about the file of this name.
+    Stat(Name),
+    /// Brings all names to rest.
+    Recover,
+}
+
+/// What the words of a run are.
+#[derive(Clone, Copy, Debug)]
+pub enum Command {
+    /// One act.
+    Act(Act),
+}
+
+/// What a run is asked for.
+#[derive(Clone, Copy, Debug)]
+pub struct Request {
+    pub setting: Setting,
+    pub command: Command,
+}

@@ -1,0 +1,94 @@
+ghost use Rattle.std.specs.Prelude.{◌≡◌, ◌≢◌, ℕ, List, [], ◌∷◌, IfOk, IfErr, IfSome, IfNone, map, string_bytes};
+ghost use Rattle.nc_words.specs.Settings.{IsSetting};
+ghost use Rattle.nc_words.specs.Words.{Asks, IsCommand, RefusesWords};
+
+use crate::act::{Act, Command, Request};
+use crate::setting::Setting;
+use nc_name::{Name, NameFault};
+use thiserror::Error;
+
+/// Why the words ask for nothing.
+#[derive(Clone, Copy, Debug, Error)]
+pub enum WordFault {
+    /// They aren't one of the commands with exactly its arguments.
+    #[error("the words are no command with its arguments")]
+    Usage,
+    /// They are, but the name isn't one.
+    #[error("the name isn't one")]
+    Name(NameFault),
+}
+
+/// Reads the words of a run over so many clouds: one command with exactly its arguments.
+pub fn read_words(words: &[String], width: u8) -> Result<Request, WordFault>
+    ensures request { IfOk result (Asks width (map string_bytes words.now)) }
+    ensures setting { IfOk result (λ request. IsSetting request.setting) }
+    ensures fault { IfErr result (RefusesWords width (map string_bytes words.now)) }
+{
+    let command = read_command(words, width)?;
+    Ok(Request {
+        setting: Setting::standard(),
+        command,
+    })
+}
+
+/// The command that the words are. No command asks how many clouds there are yet.
+fn read_command(words: &[String], width: u8) -> Result<Command, WordFault>
+    ensures command { IfOk result (IsCommand width (map string_bytes words.now)) }
+    ensures fault { IfErr result (RefusesWords width (map string_bytes words.now)) }
+{
+    if let Some(word) = one_word(words) {
+        if word == "ls" {
+            return Ok(Command::Act(Act::List));
+        }
+        if word == "recover" {
+            return Ok(Command::Act(Act::Recover));
+        }
+        return Err(WordFault::Usage);
+    }
+    match two_words(words) {
+        Some((word, text)) => read_pair(word, text, width),
+        None => Err(WordFault::Usage),
+    }
+}
+
+/// The command that two words are: one about a name.
+fn read_pair(word: &str, text: &str, width: u8) -> Result<Command, WordFault>
+    ensures command { IfOk result (IsCommand width (word.now ∷ text.now ∷ [])) }
+    ensures fault { IfErr result (RefusesWords width (word.now ∷ text.now ∷ [])) }
+{
+    let _ = width;
+    let name = Name::read(text);
+    let made = match word {
+        "put" => name.map(Act::Put),
+        "get" => name.map(Act::Get),
+        "rm" => name.map(Act::Remove),
+        "stat" => name.map(Act::Stat),
+        _ => return Err(WordFault::Usage),
+    };
+    match made {
+        Ok(act) => Ok(Command::Act(act)),
+        Err(cause) => Err(WordFault::Name(cause)),
+    }
+}
+
+/// The word, where there is one.
+fn one_word(words: &[String]) -> Option<&str>
+    ensures some { IfSome result (λ word. map string_bytes words.now ≡ word.now ∷ []) }
+    ensures none { IfNone result ((word : List ℕ) → map string_bytes words.now ≢ word ∷ []) }
+{
+    match words {
+        [word] => Some(word.as_str()),
+        _ => None,
+    }
+}
+
+/// The words, where there are two.
+fn two_words(words: &[String]) -> Option<(&str, &str)>
+    ensures some { IfSome result (λ pair. map string_bytes words.now ≡ pair.0.now ∷ pair.1.now ∷ []) }
+    ensures none { IfNone result ((first second : List ℕ) → map string_bytes words.now ≢ first ∷ second ∷ []) }
+{
+    match words {
+        [first, second] => Some((first.as_str(), second.as_str())),
+        _ => None,
+    }
+}
