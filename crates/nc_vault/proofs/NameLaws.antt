@@ -1,0 +1,225 @@
+-- From the work on one name to that on all.
+use Rattle.std.proofs.Common.{◌≡◌, ◌<◌, ◌+◌, ℕ, Bool, true, false, if◌then◌else◌, Option, Some, None, List, [], Contains, IfSome, length, take, slice_get, inl, inr, refl, sym, ap, ◌∙◌, subst, arith}
+use Rattle.std.specs.Str.{bytes_eq}
+use Rattle.std.proofs.lemmas.Slice.Eq.{bytes_eq-Decides}
+use Rattle.nc_name.specs.declared.key.Key.{Key}
+use Rattle.nc_name.specs.Keys.{name_of}
+use Rattle.nc_cloud.specs.Contents.{Contents}
+use Rattle.nc_state.specs.Clouds.{Clouds}
+use Rattle.nc_state.specs.ChunkLaws.{SameAt}
+use Rattle.nc_state.specs.Entries.{Entry}
+use Rattle.nc_state.specs.Entries.Entry.{Rest, Opened}
+use Rattle.nc_state.specs.Right.{IsRight, RightOn}
+use Rattle.nc_state.specs.Standing.{Entries, with_entry}
+use Rattle.nc_state.specs.Vaults.{BeginsMaking, ChangesOnlyName, IsVault, Vault, version_in}
+use Rattle.nc_state.specs.Versions.{Version}
+use Rattle.nc_state.specs.Weighing.{after, settled, some_holds, weigh}
+use Rattle.nc_state.proofs.Keeping.{names_name, untouched_stays}
+use Rattle.nc_words.specs.Acts.{Task}
+use Rattle.nc_vault.specs.Makings.{Brings, Makes}
+use Rattle.nc_vault.specs.Vaults.{DoesName, HasReached, IsDoneWith, IsUnderWay, IsUntouched, StandsBegunAt, StandsDone, StandsFinished, WorksOn}
+use Rattle.nc_vault.specs.Vaults.Begins.{has_come}
+use Rattle.nc_vault.proofs.Members.{in_none, more_cases, more_in, next_in, next_within, none_past, take_past, take_whole}
+
+-- ---- entries with one of them changed
+
+pub entry_here : (S : Entries) (name : List ℕ) (e : Entry) → with_entry S name e name ≡ e
+entry_here S name e = ap (λ (b : Bool). if b then e else S name) ((bytes_eq-Decides name name).1 refl)
+
+not_equal : (b : Bool) → (b ≡ true → ⊥) → (e s : Entry) → (if b then e else s) ≡ s
+not_equal true wrong e s = absurd (wrong refl)
+not_equal false wrong e s = refl
+
+entry_there : (S : Entries) (name other : List ℕ) (e : Entry) → (other ≡ name → ⊥) → with_entry S name e other ≡ S other
+entry_there S name other e differ = not_equal (bytes_eq other name) (λ is. differ ((bytes_eq-Decides other name).0 is)) e (S other)
+
+-- ---- a name that wasn't touched
+
+module _ (n : ℕ) (V W : Vault) (name : List ℕ) (same : IsUntouched V W name) where
+  objects_same : SameAt n V.contents W.contents name
+  objects_same c place within of = same.objects c place of
+
+  version_same : version_in n W name ≡ version_in n V name
+  version_same = (untouched_stays n V.contents W.contents name objects_same).2 (W.entries name) ∙ ap (settled n V.contents name) same.entry
+
+  -- the entry after a command is the same, whether it came to the name at W or at V
+  after_same : (G : Contents) (made : Option Version) → W.damaged ≡ V.damaged
+      → after n W.contents G W.damaged name (W.entries name) made ≡ after n V.contents G V.damaged name (V.entries name) made
+  after_same G None damaged =
+      ap (λ (e : Entry). after n W.contents G W.damaged name e None) same.entry ∙ ap (λ (D : Clouds). after n W.contents G D name (V.entries name) None) damaged
+  after_same G (Some y) damaged =
+      ap (λ (x : Version). if some_holds n G name y then weigh n G W.damaged name (Opened x y) else weigh n G W.damaged name (W.entries name)) version_same
+      ∙ ap (λ (e : Entry). if some_holds n G name y then weigh n G W.damaged name (Opened (version_in n V name) y) else weigh n G W.damaged name e) same.entry
+      ∙ ap (λ (D : Clouds). after n V.contents G D name (V.entries name) (Some y)) damaged
+
+-- ---- another name, while objects of this one change
+
+right_kept : (n : ℕ) (F G : Contents) (other : List ℕ) (x : Version) (c : ℕ) → c < n → SameAt n F G other → RightOn n F other x c → RightOn n G other x c
+right_kept n F G other x c within same right place has =
+    let r : IsRight n F x c place = right place has in
+    record { bytes = r.bytes; stands = same c place within (names_name other x c place has) ∙ r.stands; is_chunk = r.is_chunk }
+
+-- the vault W with the name at this entry, once the clouds hold G
+abbrev pub changed : Vault → List ℕ → Entry → Contents → Vault
+changed W name e G = record { contents = G; entries = with_entry W.entries name e; damaged = W.damaged }
+
+module _ (n : ℕ) (task : Task) (V W : Vault) (name : List ℕ) (e : Entry) (G : Contents) (only : ChangesOnlyName name W.contents G) (other : List ℕ) (differ : other ≡ name → ⊥) where
+  same_there : (c : ℕ) (place : Key) → name_of place ≡ other → G c place ≡ W.contents c place
+  same_there c place of = only.others c place (λ is. differ (sym of ∙ is))
+
+  done_kept : IsDoneWith n task V W other → IsDoneWith n task V (changed W name e G) other
+  done_kept d = record {
+    version = d.version;
+    brought = d.brought;
+    rests = entry_there W.entries name other e differ ∙ d.rests;
+    held = λ c l. (untouched_stays n W.contents G other (λ k place within of. same_there k place of)).1 c d.version l (d.held c l);
+    filled = λ c l f. right_kept n W.contents G other d.version c l (λ k place within of. same_there k place of) (d.filled c l f);
+  }
+
+  untouched_kept : IsUntouched V W other → IsUntouched V (changed W name e G) other
+  untouched_kept u = record {
+    entry = entry_there W.entries name other e differ ∙ u.entry;
+    objects = λ c place of. same_there c place of ∙ u.objects c place of;
+  }
+
+-- ---- one name after another
+
+-- no name was worked on
+abbrev pub names_begin : (n : ℕ) (task : Task) (V : Vault) (names : List (List ℕ)) → IsVault n V → StandsFinished n task V names 0 V.contents
+names_begin n task V names stands = record {
+  vault = V;
+  contents = refl;
+  stands = stands;
+  damaged = refl;
+  reached = record {
+    among = omega arith;
+    finished = λ name among. absurd (in_none name among);
+    others = λ name out. record { entry = refl; objects = λ c place of. refl };
+  };
+}
+
+-- the act is done with the first names, and comes to the next
+module _ (n : ℕ) (task : Task) (V : Vault) (names : List (List ℕ)) (done : ℕ) (F : Contents) (name : List ℕ) (next : slice_get names done ≡ Some name)
+    (new : Contains (take done names) name → ⊥) (at : StandsFinished n task V names done F) where
+  abbrev here : Vault
+  here = at.vault
+
+  only_here : (G : Contents) → ChangesOnlyName name F G → ChangesOnlyName name here.contents G
+  only_here G = subst (λ (C : Contents). ChangesOnlyName name C G) (sym at.contents)
+
+  -- it is none of the first
+  early_differs : (other : List ℕ) → Contains (take done names) other → other ≡ name → ⊥
+  early_differs other among is = new (subst (Contains (take done names)) is among)
+
+  -- nor one of the later
+  late_differs : (other : List ℕ) → (Contains (take (done + 1) names) other → ⊥) → other ≡ name → ⊥
+  late_differs other out is = out (subst (Contains (take (done + 1) names)) (sym is) (next_in names done name next))
+
+  late_untouched : (other : List ℕ) → (Contains (take (done + 1) names) other → ⊥) → IsUntouched V here other
+  late_untouched other out = at.reached.others other (λ among. out (more_in names done name next other among))
+
+  name_untouched : IsUntouched V here name
+  name_untouched = at.reached.others name new
+
+  version_is : version_in n here name ≡ version_in n V name
+  version_is = version_same n V here name name_untouched
+
+  done_here : (G : Contents) (d : DoesName n task name here G) → IsDoneWith n task V (changed here name (Rest d.version) G) name
+  done_here G d = record {
+    version = d.version;
+    brought = subst (λ (x : Version). Brings n task name x d.version) version_is d.brought;
+    rests = entry_here here.entries name (Rest d.version);
+    held = d.rests.held;
+    filled = d.filled;
+  }
+
+  done_each : (G : Contents) (d : DoesName n task name here G) → ChangesOnlyName name F G → (other : List ℕ) → Contains (take (done + 1) names) other
+      → IsDoneWith n task V (changed here name (Rest d.version) G) other
+  done_each G d only other among =
+      elim (more_cases names done name next other among) [
+        | inl early ↦ done_kept n task V here name (Rest d.version) G (only_here G only) other (early_differs other early) (at.reached.finished other early)
+        | inr is ↦ subst (IsDoneWith n task V (changed here name (Rest d.version) G)) is (done_here G d)
+      ]
+
+  -- the name is done: so is one more
+  pub name_is_done : (G : Contents) → DoesName n task name here G → ChangesOnlyName name F G → StandsFinished n task V names (done + 1) G
+  name_is_done G d only = record {
+    vault = changed here name (Rest d.version) G;
+    contents = refl;
+    stands = d.rests.stands;
+    damaged = at.damaged;
+    reached = record {
+      among = let within = next_within names done name next in omega (arith, within);
+      finished = done_each G d only;
+      others = λ other out. untouched_kept n task V here name (Rest d.version) G (only_here G only) other (late_differs other out) (late_untouched other out);
+    };
+  }
+
+  under_way : (G : Contents) (b : BeginsMaking n name (Makes n task name) here G)
+      → IsUnderWay n task V (changed here name (after n here.contents G here.damaged name (here.entries name) b.made) G) name
+  under_way G b = record {
+    made = b.made;
+    makes = subst (λ (x : Version). IfSome b.made (Makes n task name x)) version_is b.makes_it;
+    entry = entry_here here.entries name (after n here.contents G here.damaged name (here.entries name) b.made) ∙ after_same n V here name name_untouched G b.made at.damaged;
+  }
+
+  -- it is under way: so is the act
+  pub name_is_begun : WorksOn n V.contents task.act names → (G : Contents) → BeginsMaking n name (Makes n task name) here G → ChangesOnlyName name F G → StandsBegunAt n task V done G
+  name_is_begun works G b only =
+      let e : Entry = after n here.contents G here.damaged name (here.entries name) b.made in
+      record {
+        left = record {
+          vault = changed here name e G;
+          contents = refl;
+          stands = b.stands;
+          done = done;
+          begun = has_come (record {
+            names = names;
+            works_on = works;
+            reached = record {
+              among = at.reached.among;
+              finished = λ other early. done_kept n task V here name e G (only_here G only) other (early_differs other early) (at.reached.finished other early);
+              under_way = subst (λ (o : Option (List ℕ)). IfSome o (IsUnderWay n task V (changed here name e G))) (sym next) (under_way G b);
+              others = λ other out. untouched_kept n task V here name e G (only_here G only) other (late_differs other out) (late_untouched other out);
+            };
+            damaged = at.damaged;
+          });
+        };
+        tells = refl;
+      }
+
+-- ---- all names are done
+
+module _ (n : ℕ) (task : Task) (V : Vault) (names : List (List ℕ)) (G : Contents) (works : WorksOn n V.contents task.act names) (all : StandsFinished n task V names (length names) G) where
+  all_reached : HasReached n task V all.vault names (length names)
+  all_reached = record {
+    among = omega arith;
+    finished = all.reached.finished;
+    under_way = subst (λ (o : Option (List ℕ)). IfSome o (IsUnderWay n task V all.vault)) (sym (none_past names)) tt;
+    others = λ name out. all.reached.others name (λ among. out (subst (λ (ns : List (List ℕ)). Contains ns name) (take_whole names ∙ sym (take_past names)) among));
+  }
+
+  pub names_end : StandsDone n task V G
+  names_end = record {
+    vault = all.vault;
+    contents = all.contents;
+    stands = all.stands;
+    done = record { names = names; works_on = works; reached = all_reached; damaged = all.damaged };
+  }
+
+  -- done with all names it is begun too
+  pub all_begun : StandsBegunAt n task V (length names) G
+  all_begun = record {
+    left = record {
+      vault = all.vault;
+      contents = all.contents;
+      stands = all.stands;
+      done = length names;
+      begun = has_come (record { names = names; works_on = works; reached = all_reached; damaged = all.damaged });
+    };
+    tells = refl;
+  }
+
+-- an act with no names to work on is done at once
+pub nothing_to_do : (n : ℕ) (task : Task) (V : Vault) → WorksOn n V.contents task.act [] → IsVault n V → StandsDone n task V V.contents
+nothing_to_do n task V works stands = names_end n task V [] V.contents works (names_begin n task V [] stands)

@@ -1,0 +1,101 @@
+-- What the clouds' counts say of an act.
+use Rattle.std.specs.Prelude.{ℕ, ◌≡◌, ◌⊎◌, ◌<◌, ◌≤◌, ◌==◌, ◌+◌, ◌-◌, ◌^◌, ◌&&◌, ◌||◌, Bool, true, false, not, Option, Some, min, nat_le}
+use Rattle.nc_name.specs.Counts.{Rose}
+use Rattle.nc_cloud.specs.Contents.{Grows}
+use Rattle.nc_cloud.specs.declared.fleet.Fleet.{Ghosts as FleetGhosts}
+use Rattle.nc_state.specs.Clouds.{Clouds, count_of}
+use Rattle.nc_words.specs.declared.act.Act.{Act}
+use Rattle.nc_words.specs.declared.act.Act.TheVariants as act
+use Rattle.nc_vault.specs.declared.fault.Fault.TheVariants as fault
+use Rattle.nc_vault.specs.declared.reply.Reply.{Reply}
+use Rattle.nc_vault.specs.declared.reply.Reply.TheVariants as reply
+
+-- a count has risen, or stands at its greatest value
+abbrev pub rose : ℕ → ℕ → Bool
+rose before now = nat_le (min (before + 1) (2 ^ 64 - 1)) now
+
+-- a count isn't what it was
+abbrev pub moved : ℕ → ℕ → Bool
+moved before now = not (now == before)
+
+-- the acts that list what each cloud holds
+abbrev pub lists : Act → Bool
+lists act.List = true
+lists act.Recover = true
+lists other = false
+
+-- the acts that go on while one or two clouds fail
+abbrev pub bears_failures : Act → Bool
+bears_failures (act.Stat name) = true
+bears_failures act.List = true
+bears_failures other = false
+
+-- the clouds of which a count did so between: of failed gets and puts, or, where the act lists, of failed lists and deletes
+abbrev pub counts_where : {A : Type 0} → (ℕ → ℕ → Bool) → FleetGhosts A → Act → A → A → Clouds
+counts_where did F a old new c = did (F.faults old c) (F.faults new c) || (lists a && did (F.slips old c) (F.slips new c))
+
+-- the clouds that may have failed the act: a count of theirs rose
+abbrev pub failing_in : {A : Type 0} → FleetGhosts A → Act → A → A → Clouds
+failing_in F a old new = counts_where rose F a old new
+
+-- those that did, where counts are exact
+abbrev pub failed_in : {A : Type 0} → FleetGhosts A → Act → A → A → Clouds
+failed_in F a old new = counts_where moved F a old new
+
+-- the count of this cloud rose; where counts are exact, that of no lower one changed
+pub record IsLeastToRise (exact : Type 0) (n : ℕ) (before now : ℕ → ℕ) (c : ℕ) : Type 0 where
+  pub rose_here : Rose (before c) (now c)
+  pub least : exact → (d : ℕ) → d < c → d < n → now d ≡ before d
+
+-- no count of n clouds changed
+abbrev pub StayCounts : ℕ → (ℕ → ℕ) → (ℕ → ℕ) → Type 0
+StayCounts n before now = (c : ℕ) → c < n → now c ≡ before c
+
+-- A list failed on cloud c, before the act came to a name: nothing else was done.
+pub record FailedToList {A : Type 0} (F : FleetGhosts A) (a : Act) (old new : A) (c : ℕ) (after : Option ℕ) : Type 0 where
+  pub listing : lists a ≡ true
+  pub first : after ≡ Some 0
+  pub in_width : c < F.clouds old
+  pub least : IsLeastToRise F.counts_exactly (F.clouds old) (F.slips old) (F.slips new) c
+  pub faults : F.counts_exactly → StayCounts (F.clouds old) (F.faults old) (F.faults new)
+  pub held : F.held new ≡ F.held old
+
+-- three clouds failed or more, and c is the least of them
+pub record IsLeastOfMany {A : Type 0} (F : FleetGhosts A) (a : Act) (old new : A) (c : ℕ) : Type 0 where
+  pub in_width : c < F.clouds old
+  pub failed : failing_in F a old new c ≡ true
+  pub many : 3 ≤ count_of (F.clouds old) (failing_in F a old new)
+  pub least : F.counts_exactly → (d : ℕ) → d < c → failed_in F a old new d ≡ false
+
+-- cloud c is named as one that failed; of an act that bears failures, three have
+abbrev pub NamesCloud : {A : Type 0} → Bool → FleetGhosts A → Act → A → A → ℕ → Option ℕ → Type 0
+NamesCloud true F a old new c after = IsLeastOfMany F a old new c
+NamesCloud false F a old new c after = IsLeastToRise F.counts_exactly (F.clouds old) (F.faults old) (F.faults new) c ⊎ FailedToList F a old new c after
+
+-- no cloud is named: where counts are exact, none failed at a get or a put; of an act that bears failures, at most two failed
+abbrev pub NamesNone : {A : Type 0} → Bool → FleetGhosts A → Act → A → A → Type 0
+NamesNone true F a old new = F.counts_exactly → count_of (F.clouds old) (failed_in F a old new) ≤ 2
+NamesNone false F a old new = F.counts_exactly → StayCounts (F.clouds old) (F.faults old) (F.faults new)
+
+-- A cloud is named only where its count rose, and it is the least; and where one failed, one is named.
+abbrev pub CountsSay : {A : Type 0} → FleetGhosts A → Act → A → A → Reply → Type 0
+CountsSay F a old new (reply.Stopped (fault.Cloud c) after) = NamesCloud (bears_failures a) F a old new c after
+CountsSay F a old new (reply.Stopped fault.Memory after) = Unit {0}
+CountsSay F a old new other = NamesNone (bears_failures a) F a old new
+
+-- no count fell
+pub record CountsGrow {A : Type 0} (F : FleetGhosts A) (old new : A) : Type 0 where
+  pub faults : Grows (F.faults old) (F.faults new)
+  pub slips : Grows (F.slips old) (F.slips new)
+
+-- The acts but get read no chunk; nor does a get that the metadata refuses.
+abbrev pub may_read_chunks : Act → Reply → Bool
+may_read_chunks (act.Get name) (reply.Bytes v) = true
+may_read_chunks (act.Get name) (reply.Stopped (fault.Cloud c) after) = true
+may_read_chunks (act.Get name) (reply.Stopped (fault.Short bads) after) = true
+may_read_chunks (act.Get name) (reply.Stopped fault.Memory after) = true
+may_read_chunks a other = false
+
+abbrev pub CostsBy : Bool → (ℕ → ℕ) → (ℕ → ℕ) → Type 0
+CostsBy true before now = Unit {0}
+CostsBy false before now = (c : ℕ) → now c ≡ before c

@@ -1,0 +1,22 @@
+-- The code of a version that a put makes.
+use Rattle.std.specs.Prelude.{ℕ, ◌≡◌, ◌<◌, ◌≤◌, ◌-◌, ◌^◌, Option, List}
+use Rattle.nc_meta.specs.declared.meta.Meta.{Meta}
+use Rattle.nc_nextloss.specs.GoodCodes.{GoodParts}
+use Rattle.nc_search.specs.Searches.{IsStart, NoStart}
+use Rattle.nc_state.specs.Holding.{top_generation}
+use Rattle.nc_words.specs.declared.setting.Setting.{Setting}
+use Rattle.nc_vault.specs.declared.fault.Fault.{Fault}
+use Rattle.nc_vault.specs.declared.fault.Fault.TheVariants as fault
+use Rattle.nc_vault.specs.Makings.{next_key}
+
+-- the first good code that is drawn for the version after this metadata, which isn't the last that there is
+pub record IsDrawn (n : ℕ) (s : Setting) (name : List ℕ) (top : Option Meta) (good : GoodParts) : Type 0 where
+  pub has_next : top_generation top < 2 ^ 64 - 2
+  pub index : ℕ
+  pub drawn : IsStart n (next_key s name top) s.budget index good
+
+-- why none is
+abbrev pub RefusesNext : ℕ → Setting → List ℕ → Option Meta → Fault → Type 0
+RefusesNext n s name top fault.Worn = 2 ^ 64 - 2 ≤ top_generation top
+RefusesNext n s name top (fault.Spent tried) = (tried ≡ s.budget) × (top_generation top < 2 ^ 64 - 2) × NoStart n (next_key s name top) s.budget
+RefusesNext n s name top other = ⊥

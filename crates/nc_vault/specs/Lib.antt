@@ -1,0 +1,13 @@
+pub mod Acting
+pub mod Counting
+pub mod Drawing
+pub mod Faults
+pub mod Listing
+pub mod Makings
+pub mod Parts
+pub mod Recovering
+pub mod Replies
+pub mod Saying
+pub mod Showing
+pub mod Vaults
+pub mod Writing

@@ -1,0 +1,21 @@
+ghost use Rattle.std.specs.Prelude.{◌≤◌, IfErr, IfOk};
+ghost use Rattle.nc_vault.specs.Writing.{IsSettled, IsUnsettled};
+
+use nc_cloud::Fleet;
+use nc_name::Name;
+use nc_settle::{SettleFault, Settled, settle};
+use std::alloc::Global;
+
+/// Settles a name, before a version is written over what it is settled on.
+pub fn come<F: Fleet>(alloc: Global, fleet: &mut F, name: &Name) -> Result<Settled, SettleFault>
+    requires ready { F.ready }
+    requires wide { 4 ≤ F.clouds fleet.old }
+    requires narrow { F.clouds fleet.old ≤ 10 }
+    ensures settled { IfOk result (λ s. IsSettled F.Fleet name.now fleet.old fleet.new s.top) }
+    ensures unsettled { IfErr result (IsUnsettled F.Fleet name.now fleet.old fleet.new) }
+{
+    match settle(alloc, fleet, name) {
+        Ok(settled) => Ok(settled),
+        Err(fault) => Err(fault),
+    }
+}

@@ -1,0 +1,21 @@
+//! The commands, over all names of a vault: each is one step.
+#![tactic(auto)]
+
+mod bearing;
+mod coming;
+mod drawing;
+mod fault;
+mod finishing;
+mod getting;
+mod listing;
+mod putting;
+mod recovering;
+mod removing;
+mod reply;
+mod rows;
+mod statting;
+mod stepping;
+
+pub use fault::Fault;
+pub use reply::{FileRow, Reply, Rows};
+pub use stepping::step;

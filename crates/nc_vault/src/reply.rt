@@ -1,0 +1,45 @@
+use crate::fault::Fault;
+use nc_name::{Blob, Name, Sequence};
+
+/// A file, as a list of all tells it.
+#[derive(Clone, Copy, Debug)]
+pub struct FileRow {
+    /// How many bytes it has.
+    pub len: u64,
+    pub name: Name,
+}
+
+/// All files, by name.
+pub type Rows = Sequence<FileRow>;
+
+/// How an act is answered.
+#[derive(Debug, Drop)]
+pub enum Reply {
+    /// A file was stored, as this generation of its name.
+    Stored {
+        generation: u64,
+    },
+    /// A file was removed, which is this generation of its name.
+    Removed {
+        generation: u64,
+    },
+    /// The bytes of a file.
+    Bytes(Blob),
+    /// All files.
+    Listing(Rows),
+    /// What is known of a file: its generation, how many bytes it has, and whether it has a plan for each next loss.
+    About {
+        generation: u64,
+        len: u64,
+        witnessed: bool,
+    },
+    /// So many names were brought to rest.
+    Settled {
+        names: u64,
+    },
+    /// The act wasn't done, for this cause; of an act on all names, with how many of them it was.
+    Stopped {
+        fault: Fault,
+        after: Option<u64>,
+    },
+}
