@@ -1,5 +1,0 @@
-pub mod WordLaws
-pub mod GetLaws
-pub mod DrawingLaws
-pub mod PutLaws
-pub mod TellLaws

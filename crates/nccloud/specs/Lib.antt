@@ -1,8 +1,1 @@
-pub mod Codes
-pub mod Counting
-pub mod Got
-pub mod Putting
-pub mod Run
-pub mod Settings
-pub mod Status
-pub mod Words
+pub mod Paths

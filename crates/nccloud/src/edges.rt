@@ -3,12 +3,12 @@ ghost use Rattle.std.specs.Prelude.{◌≡◌, ◌==◌, IfOk, OnOk, map, drop, 
 ghost use Rattle.std.specs.List.{slice_split};
 ghost use Rattle.std.specs.Process.{exit_status};
 ghost use Rattle.nc_folder.specs.Folder.{path_of};
-ghost use Rattle.nccloud.specs.Codes.{exit_code};
-ghost use Rattle.nccloud.specs.Words.{folder_paths};
+ghost use Rattle.nc_run.specs.Codes.{exit_code};
+ghost use Rattle.nccloud.specs.Paths.{folder_paths};
 
-use crate::status::Status;
 use nc_folder::FolderCloud;
 use nc_name::Memory;
+use nc_run::Status;
 use std::alloc::{AllocError, Global};
 use std::process::ExitCode;
 

@@ -1,7 +1,8 @@
 //! The parts of `main`: words, folders and exit codes.
 
 use crate::edges::{after_first, ending, folders};
-use crate::status::{Fault, Status};
+use nc_run::Status;
+use nc_vault::Fault;
 use std::process::ExitCode;
 use std::test::Fail;
 

@@ -1,27 +1,15 @@
-//! The program: `nccloud CLOUDS put NAME` stores standard input on clouds that are folders, and `get NAME` gives it back.
+//! The program: `nccloud CLOUDS WORDS` does what the words ask for on clouds that are folders, as `put NAME` and `get NAME`.
 #![tactic(auto)]
 
-mod drawing;
 mod edges;
 #[cfg(test)]
 mod edges_tests;
-mod get;
-#[cfg(test)]
-mod look_tests;
-mod put;
-mod run;
-#[cfg(test)]
-mod scenes;
-mod setting;
-mod status;
-mod telling;
-mod words;
 
 use crate::edges::{after_first, ending, folders};
-use crate::run::run;
-use crate::status::{Fault, Status};
 use nc_cloud::Fanned;
+use nc_run::{Status, run};
 use nc_stream::{StdSink, StdSource};
+use nc_vault::Fault;
 use std::env;
 use std::io::ErrorKind;
 use std::process::ExitCode;
