@@ -1,0 +1,55 @@
+//! How a run must end.
+
+use crate::running::Outcome;
+use crate::value::bytes_of;
+use std::alloc::Global;
+use std::test::Fail;
+
+/// How a run must end: the exit code and the status, its output, and how many objects there are then, where that is asked.
+#[derive(Drop)]
+pub struct End<'a> {
+    pub answer: &'a str,
+    pub output: &'a str,
+    pub leaving: &'a str,
+}
+
+/// The parts of a text `ANSWER = OUTPUT leaving COUNTS`, of which the last two may be left out.
+pub fn end_of(text: &str) -> End<'_> {
+    let (text, leaving) = match text.split_once(" leaving ") {
+        Some(parts) => parts,
+        None => (text, ""),
+    };
+    let (answer, output) = match text.split_once(" = ") {
+        Some(parts) => parts,
+        None => (text, ""),
+    };
+    End {
+        answer,
+        output,
+        leaving,
+    }
+}
+
+/// A run ended so.
+pub fn check_end(alloc: Global, outcome: &Outcome, end: &End<'_>) -> Result<(), Fail> {
+    check_answer(outcome.answer.as_str(), end.answer)?;
+    let pieces: Vec<&str> = end.output.split_whitespace().collect(alloc)?;
+    let wanted = bytes_of(alloc, &pieces)?;
+    check_bytes(outcome.output.bytes(), wanted.as_slice())
+}
+
+pub fn check_answer(found: &str, wanted: &str) -> Result<(), Fail> {
+    if found == wanted {
+        Ok(())
+    } else {
+        Err(Fail::new(format_args!("it ended with: {found}")))
+    }
+}
+
+pub fn check_bytes(found: &[u8], wanted: &[u8]) -> Result<(), Fail> {
+    if found == wanted {
+        Ok(())
+    } else {
+        Err(Fail::new(format_args!("these bytes are there: {found:?}")))
+    }
+}

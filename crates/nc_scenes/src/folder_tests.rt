@@ -1,0 +1,163 @@
+//! Runs over folders. What stands in them is the system's word, so tests alone look at it.
+
+use crate::ending::{check_end, end_of};
+use crate::running::Setup;
+use crate::value::piece_bytes;
+use nc_cloud::{Fanned, Fleet};
+use nc_folder::FolderCloud;
+use std::fs;
+use std::test::Fail;
+use std::thread::Threads;
+
+/// Four folders.
+static LIST: &str = "scratch_file/0,scratch_file/1,scratch_file/2,scratch_file/3";
+
+/// The clouds of this list of folders, or none where there is no list.
+fn clouds_of(rt: HostRuntime, list: Option<&str>) -> Result<Vec<FolderCloud>, Fail> {
+    let mut clouds = Vec::new(rt.alloc());
+    if let Some(list) = list {
+        for path in list.split(',') {
+            clouds.push(FolderCloud::open(rt, path)?)?;
+        }
+    }
+    Ok(clouds)
+}
+
+/// A run of these words ends so. The input stands after the words, where there is some.
+fn check_run<R: Threads + Sync + AllocGlobal, F: Fleet>(
+    rt: &R,
+    fleet: &mut F,
+    run: &str,
+    end: &str,
+) -> Result<(), Fail>
+    requires ready { F.ready }
+{
+    let alloc = rt.alloc();
+    let (words, input) = match run.split_once(" < ") {
+        Some(parts) => parts,
+        None => (run, "zeros:0"),
+    };
+    let setup = Setup::new(piece_bytes(alloc, input)?);
+    let outcome = setup.run(rt, fleet, words)?;
+    check_end(alloc, &outcome, &end_of(end))
+}
+
+/// Makes four folders, without what an earlier run left there.
+fn make_folders(rt: &HostRuntime) -> Result<(), Fail> {
+    if fs::exists(rt, "scratch_file")? {
+        fs::remove_dir_all(rt, "scratch_file")?;
+    }
+    for folder in LIST.split(',') {
+        fs::create_dir_all(rt, folder)?;
+    }
+    Ok(())
+}
+
+/// What is done at this path: a file is written or removed, or a folder made or removed with all that stands in it. Or what
+/// must stand there: something or nothing.
+fn perform(rt: &HostRuntime, act: &str, path: &str) -> Result<(), Fail> {
+    match act {
+        "write" => fs::write(rt, path, "NCF1")?,
+        "remove" => fs::remove_file(rt, path)?,
+        "make" => fs::create_dir(rt, path)?,
+        "raze" => fs::remove_dir_all(rt, path)?,
+        "has" => check_stands(rt, path, true)?,
+        "lacks" => check_stands(rt, path, false)?,
+        _ => return Err(Fail::new("no such act")),
+    }
+    Ok(())
+}
+
+fn check_stands(rt: &HostRuntime, path: &str, wanted: bool) -> Result<(), Fail> {
+    if fs::exists(rt, path)? == wanted {
+        Ok(())
+    } else {
+        Err(Fail::new(format_args!("what stands at {path}")))
+    }
+}
+
+#[test]
+fn a_file_stands_in_folders(rt: HostRuntime) -> Result<(), Fail> {
+    make_folders(&rt)?;
+    let mut fleet = Fanned::new(rt, rt.alloc(), clouds_of(rt, Some(LIST))?)?;
+    let scene = r#"
+        put a < mixed:300000 -> 0 Ok = generation:1
+        get a -> 0 Ok = mixed:300000
+        write scratch_file/0/c-61-0-0
+        get a -> 0 Ok = mixed:300000
+        remove scratch_file/2/c-61-0-1
+        get a -> 0 Ok = mixed:300000
+        lacks scratch_file/2/m-61-0
+        put a < mixed:5 -> 0 Ok = generation:2
+        get a -> 0 Ok = mixed:5
+        lacks scratch_file/2/c-61-0-0
+        lacks scratch_file/2/c-61-0-1
+        has scratch_file/2/c-61-1-0
+        has scratch_file/2/c-61-1-1
+        has scratch_file/2/m-61-0
+        lacks scratch_file/2/m-61-1
+        make scratch_file/2/c-61-0-1
+        get a -> 0 Ok = mixed:5
+        put a < mixed:4 -> 4 Vault(Cloud(2))
+        get a -> 0 Ok = mixed:5
+        raze scratch_file/2/c-61-0-1
+        put a < mixed:4 -> 0 Ok = generation:3
+        get a -> 0 Ok = mixed:4
+        rm a -> 0 Ok = generation:4
+        has scratch_file/2/m-61-0
+        lacks scratch_file/2/m-61-1
+        lacks scratch_file/2/c-61-0-0
+        lacks scratch_file/2/c-61-0-1
+        ls -> 0 Ok
+        put a < mixed:4 -> 0 Ok = generation:5
+        ls -> 0 Ok = "4·a¶"
+        stat a -> 0 Ok = "generation·5·length·4·witnesses·yes¶"
+        remove scratch_file/2/c-61-0-1
+        make scratch_file/2/c-61-0-1
+        get a -> 4 Vault(Cloud(2))
+        recover -> 0 Ok = "settled·1¶"
+        raze scratch_file/3
+        get b -> 4 Vault(Cloud(3))
+        put b -> 4 Vault(Cloud(3))
+        raze scratch_file/1
+        get b -> 4 Vault(Cloud(1))
+        put b -> 4 Vault(Cloud(1))
+        write scratch_file/1
+        get b -> 4 Vault(Cloud(1))
+        put b -> 4 Vault(Cloud(1))"#;
+    for line in scene.lines() {
+        let line = line.trim();
+        if let Some((words, end)) = line.split_once(" -> ") {
+            check_run(&rt, &mut fleet, words, end)?;
+        } else if let Some((act, path)) = line.split_once(' ') {
+            perform(&rt, act, path)?;
+        }
+    }
+    fs::remove_dir_all(&rt, "scratch_file")?;
+    Ok(())
+}
+
+/// The folders in brackets, if any are given, the words, and how their run ends.
+#[test]
+fn lists_that_are_refused_make_no_folder(rt: HostRuntime) -> Result<(), Fail> {
+    let scene = "
+        put a -> 2 Width(0)
+        []: put a -> 2 Width(1)
+        [scratch_none/0,scratch_none/1,scratch_none/2]: put a -> 2 Width(3)
+        [scratch_none/0,scratch_none/1,scratch_none/2,scratch_none/3,scratch_none/4,scratch_none/5,scratch_none/6,scratch_none/7,scratch_none/8,scratch_none/9,scratch_none/10]: put a -> 2 Width(11)
+        [,,,]: put a -> 4 Vault(Cloud(0))
+        [,,,]: get a -> 4 Vault(Cloud(0))
+        [scratch_none/0,,,]: get a -> 4 Vault(Cloud(0))";
+    for line in scene.lines() {
+        if let Some((run, end)) = line.trim().split_once(" -> ") {
+            let (list, words) = match run.split_once(": ") {
+                Some((list, words)) => (Some(list.trim_matches(['[', ']'])), words),
+                None => (None, run),
+            };
+            let mut fleet = Fanned::new(rt, rt.alloc(), clouds_of(rt, list)?)?;
+            check_run(&rt, &mut fleet, words, end)?;
+        }
+    }
+    assert!(rt; !fs::exists(&rt, "scratch_none")?);
+    Ok(())
+}

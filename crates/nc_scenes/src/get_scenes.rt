@@ -1,0 +1,145 @@
+//! What a get gives, with clouds lost, spoiled or failing.
+
+use crate::player::play;
+use std::test::Fail;
+
+#[test]
+fn get_scenes(rt: HostRuntime) -> Result<(), Fail> {
+    play(
+        &rt,
+        r#"
+        # no byte, one, 4 and 5 come back without any two of 4 clouds
+        clouds 4
+        put a < mixed:0 -> 0 Ok = generation:1
+        without two: get a -> 0 Ok = mixed:0
+        put b < mixed:1 -> 0 Ok = generation:1
+        without two: get b -> 0 Ok = mixed:1
+        put p < mixed:4 -> 0 Ok = generation:1
+        without two: get p -> 0 Ok = mixed:4
+        put Z < mixed:5 -> 0 Ok = generation:1
+        without two: get Z -> 0 Ok = mixed:5
+
+        # no byte, one, 10 and 11 come back without any two of 7 clouds
+        clouds 7
+        put a < mixed:0 -> 0 Ok = generation:1
+        without two: get a -> 0 Ok = mixed:0
+        put b < mixed:1 -> 0 Ok = generation:1
+        without two: get b -> 0 Ok = mixed:1
+        put p < mixed:10 -> 0 Ok = generation:1
+        without two: get p -> 0 Ok = mixed:10
+        put Z < mixed:11 -> 0 Ok = generation:1
+        without two: get Z -> 0 Ok = mixed:11
+
+        # no byte, one, 16 and 17 come back without any two of 10 clouds
+        clouds 10
+        put a < mixed:0 -> 0 Ok = generation:1
+        without two: get a -> 0 Ok = mixed:0
+        put b < mixed:1 -> 0 Ok = generation:1
+        without two: get b -> 0 Ok = mixed:1
+        put p < mixed:16 -> 0 Ok = generation:1
+        without two: get p -> 0 Ok = mixed:16
+        put Z < mixed:17 -> 0 Ok = generation:1
+        without two: get Z -> 0 Ok = mixed:17
+
+        # an output that takes a byte a call gets the file whole
+        clouds 4
+        put a < mixed:1003 -> 0 Ok = generation:1
+        writes up to 1
+        get a -> 0 Ok = mixed:1003
+
+        # an output that fails has the bytes before
+        clouds 4
+        put a < "abcdefgh" -> 0 Ok = generation:1
+        writes up to 5
+        write 2 fails
+        get a -> 9 WriteFault = "abcde"
+        unchanged
+
+        # a name without whole metadata is no file
+        clouds 4
+        put a < "abcdefgh" -> 0 Ok = generation:1
+        cut 0 m-61-1
+        cut 1 m-61-1
+        cut 2 m-61-1
+        cut 3 m-61-1
+        get a -> 3 Vault(NoFile)
+        get b -> 3 Vault(NoFile)
+
+        # metadata of another cloud beside metadata of the clouds' own is passed over
+        clouds 4
+        put a < "abcdefgh" -> 0 Ok = generation:1
+        copy 1 m-61-1 to 3
+        get a -> 0 Ok = "abcdefgh"
+
+        # two spoiled clouds are passed over: an object is gone, cut by a byte, another cloud's, or of another file, "ijklmnop";
+        # then it is sealed as it was, by bench/plain.py
+        clouds 4
+        put a < "abcdefgh" -> 0 Ok = generation:1
+        lose 0 c-61-0-0
+        cut 1 c-61-0-1
+        get a -> 0 Ok = "abcdefgh"
+        seal 0 c-61-0-0 442a
+        copy 3 c-61-0-0 to 2
+        get a -> 0 Ok = "abcdefgh"
+        seal 1 c-61-0-1 d759
+        seal 3 c-61-0-1 9177
+        get a -> 0 Ok = "abcdefgh"
+        seal 2 c-61-0-0 d47e
+        lose 0 c-61-0-0
+        get a -> 0 Ok = "abcdefgh"
+        seal 3 c-61-0-1 a7fd
+        copy 3 c-61-0-0 to 2
+        get a -> 0 Ok = "abcdefgh"
+        seal 0 c-61-0-0 442a
+        seal 2 c-61-0-0 d47e
+        cut 1 c-61-0-1
+        seal 3 c-61-0-1 9177
+        get a -> 0 Ok = "abcdefgh"
+
+        # more spoiled clouds are listed, each with its cause
+        clouds 4
+        put a < "abcdefgh" -> 0 Ok = generation:1
+        lose 0 c-61-0-0
+        cut 1 c-61-0-1
+        copy 3 c-61-0-0 to 2
+        get a -> 5 Short: 0 row 0 Missing, 1 row 1 Broken, 2 row 0 Broken
+        seal 0 c-61-0-0 442a
+        seal 3 c-61-0-1 9177
+        get a -> 5 Short: 1 row 1 Broken, 2 row 0 Broken, 3 row 1 Marked
+        seal 1 c-61-0-1 d759
+        lose 0 c-61-0-0
+        get a -> 5 Short: 0 row 0 Missing, 2 row 0 Broken, 3 row 1 Marked
+        seal 2 c-61-0-0 d47e
+        cut 1 c-61-0-1
+        get a -> 5 Short: 0 row 0 Missing, 1 row 1 Broken, 3 row 1 Marked
+        copy 3 c-61-0-0 to 2
+        get a -> 5 Short: 0 row 0 Missing, 1 row 1 Broken, 2 row 0 Broken, 3 row 1 Marked
+
+        # each bad cloud is told by its first cause
+        clouds 4
+        seal all m-61-1 live:1
+        seal 0 c-61-0-1 "cd"
+        seal 1 c-61-0-0 "ef"
+        seal 1 c-61-0-1 67
+        seal 2 as 3 of 4 c-61-0-0 0404
+        seal 3 c-61-0-0 040c
+        get a -> 5 Short: 0 row 0 Missing, 1 row 1 Broken, 2 row 0 Broken, 3 row 0 Marked
+
+        # a failing cloud ends the get: the least of the first step in which one fails is named
+        clouds 4
+        put a < "abcdefgh" -> 0 Ok = generation:1
+        # the rounds that look, and those of row 0 and of row 1
+        failing 1: get a -> 4 Vault(Cloud(0)) leaving 12 12 12 12
+        failing 4: get a -> 4 Vault(Cloud(3)) leaving 12 12 12 12
+        failing 5: get a -> 4 Vault(Cloud(0)) leaving 12 12 12 12
+        failing 8: get a -> 4 Vault(Cloud(3)) leaving 12 12 12 12
+        failing 9: get a -> 4 Vault(Cloud(0)) leaving 12 12 12 12
+        failing 11: get a -> 4 Vault(Cloud(2)) leaving 12 12 12 12
+        failing 13: get a -> 4 Vault(Cloud(0)) leaving 12 12 12 12
+        failing 16: get a -> 4 Vault(Cloud(3)) leaving 12 12 12 12
+        failing 4 6: get a -> 4 Vault(Cloud(1)) leaving 12 12 12 12
+        failing 12 10: get a -> 4 Vault(Cloud(1)) leaving 12 12 12 12
+        failing 12 13: get a -> 4 Vault(Cloud(3)) leaving 12 12 12 12
+        "#,
+    )
+}
