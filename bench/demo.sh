@@ -1,6 +1,6 @@
 #!/usr/bin/env bash
 # Shows what the program does today: builds it, runs it, and compares each exit status with the one that is wanted, and what a
-# put left in the folders with what plain.py, a program of its own, makes of the same file.
+# put or a removal left in the folders with what plain.py, a program of its own, makes of the same file.
 set -u
 cd "$(dirname "$0")/.."
 program=crates/nccloud/out/nccloud
@@ -39,16 +39,17 @@ same() {
     if cmp -s "$1" "$scratch/out"; then echo "           the output is as it should be"; else echo "    WRONG: other output"; failed=1; fi
 }
 
-# plainly NAME FILE: whether the clouds hold just what plain.py makes of this file.
+# plainly FILE NAME WORD..: whether the clouds hold just what plain.py makes of this file by these words.
 plainly() {
-    local folders= folder differs=0
+    local folders= folder differs=0 file=$1
+    shift
     rm -rf "$scratch/plain"
     for folder in ${clouds//,/ }; do
         folder=$scratch/plain/${folder##*/}
         mkdir -p "$folder"
         folders=$folders${folders:+,}$folder
     done
-    python3 bench/plain.py "$folders" "$1" <"$2" || differs=1
+    python3 bench/plain.py "$folders" "$@" <"$file" || differs=1
     for folder in ${folders//,/ }; do
         diff -r "$scratch/${folder##*/}" "$folder" >/dev/null || differs=1
     done
@@ -67,7 +68,7 @@ for width in 4 7 10; do
     new_clouds "$width"
     show 0 "put of $big, $size bytes, on $width clouds" "$big" put report
     same "$scratch/said"
-    plainly report "$big"
+    plainly "$big" report
     show 0 "get of it" "$scratch/empty" get report
     same "$big"
     [ "$width" != 4 ] || (cd "$scratch" && ls -l cloud? | sed 's/^/           /')
@@ -80,11 +81,18 @@ for width in 4 7 10; do
 done
 new_clouds 4
 show 0 "put of no bytes" "$scratch/empty" put empty
-plainly empty "$scratch/empty"
+plainly "$scratch/empty" empty
 show 0 "get of them" "$scratch/empty" get empty
 same "$scratch/empty"
 echo "generation 2" >"$scratch/said"
-show 0 "put under the same name: a new version" "$big" put empty
+show 0 "put under the same name: a new version, and nothing is left of the old one" "$big" put empty
+same "$scratch/said"
+plainly "$big" empty 2
+echo "generation 2 length $size witnesses yes" >"$scratch/said"
+show 0 "stat of it" "$scratch/empty" stat empty
+same "$scratch/said"
+echo "$size empty" >"$scratch/said"
+show 0 "ls" "$scratch/empty" ls
 same "$scratch/said"
 show 0 "get of it: the new version" "$scratch/empty" get empty
 same "$big"
@@ -107,20 +115,36 @@ same "$scratch/longest"
 show 7 "put of 64 MiB and one byte: too long, nothing written" "$scratch/too_long" put longer
 show 3 "get of it: there is no such file" "$scratch/empty" get longer
 show 8 "put of a folder as input: the read failed" / put folder
+show 0 "rm of it" "$scratch/empty" rm told
+show 3 "rm of it again: there is no such file" "$scratch/empty" rm told
+show 3 "stat of it" "$scratch/empty" stat told
+printf '%s\n' "1 byte" "$(stat -c %s bench/demo.sh) empty" "67108864 longest" >"$scratch/said"
+show 0 "ls: the files that are there" "$scratch/empty" ls
+same "$scratch/said"
+echo "settled 4" >"$scratch/said"
+show 0 "recover: all names are at rest, the removed one too" "$scratch/empty" recover
+same "$scratch/said"
 show 2 "no words but the clouds: no command" "$scratch/empty"
 show 2 "put without a name: no command" "$scratch/empty" put
 show 2 "an unknown word: no command" "$scratch/empty" stow empty
 show 2 "put of an empty name: no name" "$scratch/empty" put ""
 show 2 "put of a name with a line feed: no name" "$scratch/empty" put $'a\nb'
 show 2 "put of a name of 101 letters: no name" "$scratch/empty" put "$(printf 'a%.0s' {1..101})"
-rm "$scratch"/cloud?/m-656d707479-0
-cp "$scratch"/cloud2/m-656d707479-1 "$scratch"/cloud1/m-656d707479-0
+cp "$scratch"/cloud2/m-656d707479-1 "$scratch"/other
 rm "$scratch"/cloud?/m-656d707479-1
+mv "$scratch"/other "$scratch"/cloud1/m-656d707479-0
 show 11 "get where the only metadata is that of another cloud" "$scratch/empty" get empty
 rmdir "$scratch/cloud4" 2>/dev/null || rm -r "$scratch/cloud4"
 show 4 "get where a folder is gone: a cloud failed" "$scratch/empty" get longest
 clouds=$scratch/cloud1,$scratch/cloud2,$scratch/cloud3
 show 2 "three clouds: too few" "$scratch/empty" get longest
 new_clouds 4
+echo "generation 1" >"$scratch/said"
+show 0 "put of a byte" "$scratch/byte" put byte
+same "$scratch/said"
+echo "generation 2" >"$scratch/said"
+show 0 "rm of it: what is left says that it was removed" "$scratch/empty" rm byte
+same "$scratch/said"
+plainly "$scratch/empty" byte 2 removed
 (ulimit -v 60000; show 1 "put where 60 MB are all the memory: none was found" "$scratch/empty" put empty; exit $failed) || failed=1
 exit $failed

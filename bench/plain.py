@@ -1,7 +1,8 @@
 #!/usr/bin/env python3
-"""Writes the objects that a put of a new file leaves on each cloud, as docs/FORMATS.md describes them:
+"""Writes the objects that stand on each cloud after puts of a name, or a removal, as docs/FORMATS.md describes them:
 
-    plain.py FOLDER,FOLDER,.. NAME < FILE
+    plain.py FOLDER,FOLDER,.. NAME [GENERATION] < FILE      the file, as this version of a name that puts alone made (else as the first)
+    plain.py FOLDER,FOLDER,.. NAME GENERATION removed       the name, removed as this version
 
 It shares no code with the program, and is as plain as it can be. Codes are drawn as the program draws them where nothing
 else is chosen: from a seed of 32 zero bytes, and from 64 candidates at most."""
@@ -155,30 +156,45 @@ def frame(cloud, width, key, payload):
     return bare + sha256(bare).digest()
 
 
-def metadata(width, rows, plans, length, chunks):
-    head = b"NCM1" + bytes([1]) + pack(">QQ", 1, length)
+def metadata(width, generation, slot, rows, plans, length, chunks):
+    head = b"NCM1" + bytes([1]) + pack(">QQ", generation, length)
     marks = b"".join(sha256(chunk).digest() for chunk in chunks)
-    return head + b"".join(rows) + bytes(width) + marks + bytes([bool(plans)]) + b"".join(plans)
+    return head + b"".join(rows) + bytes([slot] * width) + marks + bytes([bool(plans)]) + b"".join(plans)
 
 
-def objects(rows, plans, name, data):
-    """What each cloud holds of a new file: frames by their keys' texts."""
-    width = len(rows) // 2
+def framed(cloud, width, payloads):
+    return {key: frame(cloud, width, key.encode(), payloads[key]) for key in payloads}
+
+
+def objects(generation, rows, plans, name, data):
+    """What each cloud holds of a file: frames by their keys' texts. The first version has its chunks in slot 0, the next in slot 1."""
+    width, slot = len(rows) // 2, (generation + 1) % 2
     natives = cut(width, data)
     chunks = [combination(row, natives) for row in rows]
-    payload = metadata(width, rows, plans, len(data), chunks)
+    payload = metadata(width, generation, slot, rows, plans, len(data), chunks)
     clouds = []
     for cloud in range(width):
-        payloads = {f"c-{name.hex()}-0-{row}": chunks[2 * cloud + row] for row in (0, 1)}
-        payloads[f"m-{name.hex()}-1"] = payload
-        clouds.append({key: frame(cloud, width, key.encode(), payloads[key]) for key in payloads})
+        payloads = {f"c-{name.hex()}-{slot}-{row}": chunks[2 * cloud + row] for row in (0, 1)}
+        payloads[f"m-{name.hex()}-{generation % 2}"] = payload
+        clouds.append(framed(cloud, width, payloads))
     return clouds
+
+
+def removed(width, generation, name):
+    """What each cloud holds of a name that was removed."""
+    payload = b"NCM1" + bytes([0]) + pack(">Q", generation)
+    return [framed(cloud, width, {f"m-{name.hex()}-{generation % 2}": payload}) for cloud in range(width)]
 
 
 def main():
     folders, name = sys.argv[1].split(","), sys.argv[2].encode()
-    _, rows, plans = find_start(len(folders), draw_key(SEED, name, 1), BUDGET)
-    for folder, held in zip(folders, objects(rows, plans, name, sys.stdin.buffer.read())):
+    generation = int(sys.argv[3]) if sys.argv[3:] else 1
+    if sys.argv[4:] == ["removed"]:
+        clouds = removed(len(folders), generation, name)
+    else:
+        _, rows, plans = find_start(len(folders), draw_key(SEED, name, generation), BUDGET)
+        clouds = objects(generation, rows, plans, name, sys.stdin.buffer.read())
+    for folder, held in zip(folders, clouds):
         for key, bytes_of in held.items():
             with open(f"{folder}/{key}", "wb") as file:
                 file.write(bytes_of)
