@@ -9,7 +9,7 @@ use Rattle.nc_cloud.specs.Images.{Image}
 use Rattle.nc_memory.specs.declared.record.Torn.{Torn}
 use Rattle.nc_memory.specs.declared.record.Step.{Step}
 use Rattle.nc_memory.specs.declared.record.Event.{Event}
-use Rattle.nc_memory.specs.declared.record.Event.TheVariants.{Gets, Writes, Listed, Planted}
+use Rattle.nc_memory.specs.declared.record.Event.TheVariants.{Gets, Writes, Listed, Planted, Lost}
 use Rattle.nc_memory.specs.Record.{contents_after, failed_in, failures, gifts, given_in, numbered, over, slipped, slipped_in, WholeEvent, WholeLog, WholeSteps}
 use Rattle.nc_memory.specs.Moments.{ImageIn, step_write}
 use Rattle.nc_memory.specs.Rounds.{is_round, rounds_in, round_place}
@@ -29,6 +29,7 @@ whole_event fates (Gets looks) whole = tt
 whole_event fates (Writes steps) whole = whole_stopped fates 0 steps whole
 whole_event fates (Listed cloud failed) whole = tt
 whole_event fates (Planted cloud key bytes) whole = tt
+whole_event fates (Lost cloud damage) whole = tt
 
 stop_image : (fates : List Torn) (steps : List Step) (F : Contents) → ∥ WholeSteps steps ∥₁ → Image (map step_write steps) F (after_steps (numbered (stopped_step fates) 0 steps) F)
 stop_image fates steps F whole =
@@ -40,6 +41,7 @@ stopped_image fates (Gets looks) es F whole = inl refl
 stopped_image fates (Writes steps) es F whole = inl (stop_image fates steps F whole)
 stopped_image fates (Listed cloud failed) es F whole = inl refl
 stopped_image fates (Planted cloud key bytes) es F whole = inr (first_one es (contents_after (Planted cloud key bytes ∷ []) F))
+stopped_image fates (Lost cloud damage) es F whole = inr (first_one es (contents_after (Lost cloud damage ∷ []) F))
 
 -- what is held after a stop is an image since each moment up to it
 pub cut_image : (at : ℕ) (fates : List Torn) (log : List Event) (t : ℕ) (F : Contents) → ∥ WholeLog log ∥₁ → at < length log → t ≤ at → ImageIn (drop t log) (contents_after (take t log) F) (contents_after (cut at fates log) F)
@@ -92,18 +94,21 @@ failed_same fates (Gets looks) c = refl
 failed_same fates (Writes steps) c = tally_same (λ s. nat_eq s.cloud c && (s.failed && is_some s.new)) (stopped_step fates) (λ k s. refl) 0 steps
 failed_same fates (Listed cloud failed) c = refl
 failed_same fates (Planted cloud key bytes) c = refl
+failed_same fates (Lost cloud damage) c = refl
 
 slipped_same : (fates : List Torn) (e : Event) (c : ℕ) → slipped_in (stopped_event fates e) c ≡ slipped_in e c
 slipped_same fates (Gets looks) c = refl
 slipped_same fates (Writes steps) c = tally_same (λ s. nat_eq s.cloud c && (s.failed && is_none s.new)) (stopped_step fates) (λ k s. refl) 0 steps
 slipped_same fates (Listed cloud failed) c = refl
 slipped_same fates (Planted cloud key bytes) c = refl
+slipped_same fates (Lost cloud damage) c = refl
 
 given_same : (fates : List Torn) (e : Event) (c : ℕ) → given_in (stopped_event fates e) c ≡ given_in e c
 given_same fates (Gets looks) c = refl
 given_same fates (Writes steps) c = refl
 given_same fates (Listed cloud failed) c = refl
 given_same fates (Planted cloud key bytes) c = refl
+given_same fates (Lost cloud damage) c = refl
 
 pub cut_failures : (at : ℕ) (fates : List Torn) (log : List Event) (c : ℕ) → at < length log → failures (cut at fates log) c ≡ failures (take (at + 1) log) c
 cut_failures = cut_over failed_in failed_same

@@ -2,6 +2,7 @@ mod Counting
 mod Cuts
 mod Fates
 mod Listing
+mod LossLaws
 mod Numbered
 pub mod PastLaws
 mod RecordLaws

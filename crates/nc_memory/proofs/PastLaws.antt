@@ -6,7 +6,7 @@ use Rattle.nc_cloud.specs.Images.{Image}
 use Rattle.nc_cloud.specs.Time.{Elapses, Stays}
 use Rattle.nc_cloud.proofs.Images.{image_none}
 use Rattle.nc_memory.specs.declared.record.Event.{Event}
-use Rattle.nc_memory.specs.declared.record.Event.TheVariants.{Gets, Writes, Listed, Planted}
+use Rattle.nc_memory.specs.declared.record.Event.TheVariants.{Gets, Writes, Listed, Planted, Lost}
 use Rattle.nc_memory.specs.declared.record.Look.{Look}
 use Rattle.nc_memory.specs.declared.record.Step.{Step}
 use Rattle.nc_memory.specs.Record.{contents_after, WholeSteps}
@@ -36,6 +36,7 @@ first_one (Gets looks ∷ es) F = inl refl
 first_one (Writes steps ∷ es) F = inl (image_none (map step_write steps) F)
 first_one (Listed cloud failed ∷ es) F = inl refl
 first_one (Planted cloud key bytes ∷ es) F = inl refl
+first_one (Lost cloud damage ∷ es) F = inl refl
 
 -- and what was an image stays one
 pub image_kept : (log more : List Event) (t : ℕ) (F G : Contents) → t ≤ length log → ImageIn (drop t log) (contents_after (take t log) F) G → ImageIn (drop t (log ++ more)) (contents_after (take t (log ++ more)) F) G

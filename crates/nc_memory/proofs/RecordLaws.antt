@@ -111,29 +111,40 @@ starved_same xs ys e = sym (map-map no_answer asked xs) ∙ ap (map no_answer) e
 pub starved_asked : (asks : List Ask) → map asked (map starved_ask asks) ≡ map asked asks
 starved_asked asks = map-map asked starved_ask asks
 
--- ---- a planted object
+-- ---- one object changes
 
 both : (a b : Bool) → (a && b) ≡ true → (a ≡ true → b ≡ true → ⊥) → ⊥
 both true true e none = none refl refl
 both true false e none = cc
 both false b e none = cc
 
+pub in_place : (cloud : ℕ) (key : Key) (old new : Option (List ℕ)) → (if nat_eq cloud cloud && key_eq key key then new else old) ≡ new
+in_place cloud key old new = ap₂ (λ a b. if a && b then new else old) (eq-eqb cloud cloud refl) ((key_eq-Decides key key).1 refl)
+
+pub elsewhere : (cloud : ℕ) (key : Key) (old new : Option (List ℕ)) (c : ℕ) (q : Key) → (c ≡ cloud → q ≢ key) → (if nat_eq cloud c && key_eq key q then new else old) ≡ old
+elsewhere cloud key old new c q other =
+    stays (nat_eq cloud c && key_eq key q) old new
+    (λ e. both (nat_eq cloud c) (key_eq key q) e (λ x y. other (sym (eqb-true cloud c x)) (sym ((key_eq-Decides key q).0 y))))
+
 module _ (log : List Event) (cloud : ℕ) (key : Key) (bytes : List ℕ) where
   pub planted_there : contents_after (log ++ Planted cloud key bytes ∷ []) nothing cloud key ≡ Some bytes
-  planted_there =
-      let here : nat_eq cloud cloud ≡ true = eq-eqb cloud cloud refl in
-      let same : key_eq key key ≡ true = (key_eq-Decides key key).1 refl in
-      value-more log (Planted cloud key bytes) cloud key None ∙ ap₂ (λ a b. if a && b then Some bytes else value log cloud key None) here same
+  planted_there = value-more log (Planted cloud key bytes) cloud key None ∙ in_place cloud key (value log cloud key None) (Some bytes)
 
   pub planted_others : (c : ℕ) (q : Key) → (c ≡ cloud → q ≢ key) → contents_after (log ++ Planted cloud key bytes ∷ []) nothing c q ≡ contents_after log nothing c q
-  planted_others c q other =
-      value-more log (Planted cloud key bytes) c q None
-      ∙ stays (nat_eq cloud c && key_eq key q) (value log c q None) (Some bytes)
-      (λ e. both (nat_eq cloud c) (key_eq key q) e (λ x y. other (sym (eqb-true cloud c x)) (sym ((key_eq-Decides key q).0 y))))
+  planted_others c q other = value-more log (Planted cloud key bytes) c q None ∙ elsewhere cloud key (value log c q None) (Some bytes) c q other
 
--- no count of a planted object
-module _ (count : Event → ℕ → ℕ) (none : (cloud : ℕ) (key : Key) (bytes : List ℕ) (c : ℕ) → count (Planted cloud key bytes) c ≡ 0) where
-  pub planted_counts : (log : List Event) (cloud : ℕ) (key : Key) (bytes : List ℕ) (c : ℕ) → over count (log ++ Planted cloud key bytes ∷ []) c ≡ over count log c
-  planted_counts log cloud key bytes c =
-      let more : over count (log ++ Planted cloud key bytes ∷ []) c ≡ over count log c + over count (Planted cloud key bytes ∷ []) c = over-append count log (Planted cloud key bytes ∷ []) c in
-      omega (arith, more, none cloud key bytes c)
+-- ---- what isn't counted
+
+-- a count over a record, which stays at its end
+abbrev pub count_over : (Event → ℕ → ℕ) → List Event → ℕ → ℕ
+count_over count log c = counted (over count log c)
+
+-- a count stays at an event that it passes over
+pub uncounted : (count : Event → ℕ → ℕ) (old : List Event) {new : List Event} (e : Event) → ((c : ℕ) → count e c ≡ 0) → new ≡ old ++ e ∷ [] → count_over count new ≡ count_over count old
+uncounted count old {new} e none is = λ i c. counted (passed c i)
+  where
+    passed : (c : ℕ) → over count new c ≡ over count old c
+    passed c =
+        let same : over count new c ≡ over count (old ++ e ∷ []) c = ap (λ es. over count es c) is in
+        let more : over count (old ++ e ∷ []) c ≡ over count old c + over count (e ∷ []) c = over-append count old (e ∷ []) c in
+        omega (arith, same, more, none c)

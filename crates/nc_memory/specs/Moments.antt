@@ -2,7 +2,7 @@
 use Rattle.std.specs.Prelude.{ℕ, ◌≡◌, ◌⊎◌, List, [], ◌∷◌, map, length, take, drop}
 use Rattle.nc_memory.specs.declared.record.Step.{Step}
 use Rattle.nc_memory.specs.declared.record.Event.{Event}
-use Rattle.nc_memory.specs.declared.record.Event.TheVariants.{Gets, Writes, Listed, Planted}
+use Rattle.nc_memory.specs.declared.record.Event.TheVariants.{Gets, Writes, Listed, Planted, Lost}
 use Rattle.nc_memory.specs.declared.memory.MemFleet.{MemFleet}
 use Rattle.nc_cloud.specs.Contents.{Contents, Write, nothing}
 use Rattle.nc_cloud.specs.Images.{Image}
@@ -19,6 +19,7 @@ EventImage (Gets looks) F G = G ≡ F
 EventImage (Writes steps) F G = Image (map step_write steps) F G
 EventImage (Listed cloud failed) F G = G ≡ F
 EventImage (Planted cloud key bytes) F G = G ≡ F
+EventImage (Lost cloud damage) F G = G ≡ F
 
 -- contents that a stop in one of these events may leave, or after the last
 abbrev pub ImageIn : List Event → Contents → Contents → Type 0

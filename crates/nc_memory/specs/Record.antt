@@ -1,5 +1,5 @@
 -- What a memory fleet records, and what follows of what its clouds hold and how often they failed.
-use Rattle.std.specs.Prelude.{ℕ, ◌+◌, ◌-◌, ◌^◌, ◌&&◌, Option, None, Some, List, [], ◌∷◌, length, take, min, nat_eq, nat_le, if◌then◌else◌, find, option_map, is_some, is_none, IfSome}
+use Rattle.std.specs.Prelude.{ℕ, ◌+◌, ◌-◌, ◌^◌, ◌&&◌, Option, None, Some, List, [], ◌∷◌, length, take, min, nat_eq, nat_le, if◌then◌else◌, find, option_map, unwrap_or, is_some, is_none, IfSome}
 use Rattle.nc_name.specs.declared.key.Key.{Key}
 use Rattle.nc_frame.specs.Frames.{Whole}
 use Rattle.nc_cloud.specs.declared.fleet.Ask.{Ask}
@@ -14,8 +14,9 @@ use Rattle.nc_memory.specs.declared.record.Torn.TheVariants.{Old, New, Gone, Bro
 use Rattle.nc_memory.specs.declared.record.Refusal.{Refusal}
 use Rattle.nc_memory.specs.declared.record.Look.{Look}
 use Rattle.nc_memory.specs.declared.record.Step.{Step}
+use Rattle.nc_memory.specs.declared.record.Damage.{Damage}
 use Rattle.nc_memory.specs.declared.record.Event.{Event}
-use Rattle.nc_memory.specs.declared.record.Event.TheVariants.{Gets, Writes, Listed, Planted}
+use Rattle.nc_memory.specs.declared.record.Event.TheVariants.{Gets, Writes, Listed, Planted, Lost}
 use Rattle.nc_cloud.specs.Contents.{Contents, Write, key_eq}
 use Rattle.nc_cloud.specs.Fleet.{is_bytes, is_chunk, is_failed, tally}
 
@@ -65,6 +66,7 @@ WholeEvent (Gets looks) = Unit {0}
 WholeEvent (Writes steps) = WholeSteps steps
 WholeEvent (Listed cloud failed) = Unit {0}
 WholeEvent (Planted cloud key bytes) = Unit {0}
+WholeEvent (Lost cloud damage) = Unit {0}
 
 abbrev pub WholeLog : List Event → Type 0
 WholeLog [] = Unit {0}
@@ -76,9 +78,13 @@ WholeLog (e ∷ es) = WholeEvent e × WholeLog es
 abbrev pub step_at : List Step → ℕ → Option Step
 step_at steps c = find (λ s. nat_eq s.cloud c) steps
 
+-- these bytes without the last of them
+abbrev pub without_last : List ℕ → List ℕ
+without_last bytes = take (length bytes - 1) bytes
+
 -- what a broken write leaves: of a put the bytes without the last, and of a delete an empty object where there was one
 abbrev pub broken : Option (List ℕ) → Option (List ℕ) → Option (List ℕ)
-broken (Some bytes) old = Some (take (length bytes - 1) bytes)
+broken (Some bytes) old = Some (without_last bytes)
 broken None old = option_map (λ bytes. []) old
 
 -- what a write leaves of an object
@@ -93,12 +99,24 @@ abbrev pub step_value : Option Step → Key → Option (List ℕ) → Option (Li
 step_value None key old = old
 step_value (Some s) key old = if key_eq s.key key then left s.fate s.new old else old
 
+-- how a loss leaves the object of a key: by the first fate that was given for it, else as the rest
+abbrev pub fate_in : Damage → Key → Torn
+fate_in damage key = unwrap_or (option_map (λ f. f.fate) (find (λ f. key_eq f.key key) damage.except)) damage.rest
+
+-- what a loss leaves of an object: of a broken one the bytes without the last
+abbrev pub lost : Torn → Option (List ℕ) → Option (List ℕ)
+lost Old old = old
+lost New old = old
+lost Gone old = None
+lost Broken old = option_map without_last old
+
 -- what an event makes of what a cloud holds under a key
 abbrev pub value_after : Event → ℕ → Key → Option (List ℕ) → Option (List ℕ)
 value_after (Gets looks) c key old = old
 value_after (Writes steps) c key old = step_value (step_at steps c) key old
 value_after (Listed cloud failed) c key old = old
 value_after (Planted cloud place bytes) c key old = if nat_eq cloud c && key_eq place key then Some bytes else old
+value_after (Lost cloud damage) c key old = if nat_eq cloud c then lost (fate_in damage key) old else old
 
 -- and what several make of it, the first of them first
 abbrev pub value : List Event → ℕ → Key → Option (List ℕ) → Option (List ℕ)
@@ -151,6 +169,7 @@ failed_in (Gets looks) c = tally (λ l. nat_eq l.cloud c && l.failed) looks
 failed_in (Writes steps) c = tally (λ s. nat_eq s.cloud c && (s.failed && is_some s.new)) steps
 failed_in (Listed cloud failed) c = 0
 failed_in (Planted cloud key bytes) c = 0
+failed_in (Lost cloud damage) c = 0
 
 abbrev pub failures : List Event → ℕ → ℕ
 failures = over failed_in
@@ -161,6 +180,7 @@ slipped_in (Gets looks) c = 0
 slipped_in (Writes steps) c = tally (λ s. nat_eq s.cloud c && (s.failed && is_none s.new)) steps
 slipped_in (Listed cloud failed) c = if nat_eq cloud c && failed then 1 else 0
 slipped_in (Planted cloud key bytes) c = 0
+slipped_in (Lost cloud damage) c = 0
 
 abbrev pub slipped : List Event → ℕ → ℕ
 slipped = over slipped_in
@@ -171,6 +191,7 @@ given_in (Gets looks) c = tally (λ l. nat_eq l.cloud c && l.gave_chunk) looks
 given_in (Writes steps) c = 0
 given_in (Listed cloud failed) c = 0
 given_in (Planted cloud key bytes) c = 0
+given_in (Lost cloud damage) c = 0
 
 abbrev pub gifts : List Event → ℕ → ℕ
 gifts = over given_in

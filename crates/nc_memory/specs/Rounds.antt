@@ -1,7 +1,7 @@
 -- The rounds of a record.
 use Rattle.std.specs.Prelude.{ℕ, ◌+◌, ◌-◌, Bool, true, false, ◌&&◌, Option, None, Some, List, [], ◌∷◌, length, nat_eq, if◌then◌else◌, slice_get}
 use Rattle.nc_memory.specs.declared.record.Event.{Event}
-use Rattle.nc_memory.specs.declared.record.Event.TheVariants.{Gets, Writes, Listed, Planted}
+use Rattle.nc_memory.specs.declared.record.Event.TheVariants.{Gets, Writes, Listed, Planted, Lost}
 use Rattle.nc_cloud.specs.Fleet.{tally}
 
 -- a list is no round, and yet an entry
@@ -10,6 +10,7 @@ is_round (Gets looks) = true
 is_round (Writes steps) = true
 is_round (Listed cloud failed) = false
 is_round (Planted cloud key bytes) = false
+is_round (Lost cloud damage) = false
 
 -- how many rounds there were
 abbrev pub rounds_in : List Event → ℕ
@@ -25,6 +26,7 @@ entries_in (Gets looks) = length looks
 entries_in (Writes steps) = length steps
 entries_in (Listed cloud failed) = 1
 entries_in (Planted cloud key bytes) = 0
+entries_in (Lost cloud damage) = 0
 
 -- how many entries these events have
 abbrev pub entries_served : List Event → ℕ

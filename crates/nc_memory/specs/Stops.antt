@@ -4,7 +4,7 @@ use Rattle.nc_memory.specs.declared.record.Torn.{Torn}
 use Rattle.nc_memory.specs.declared.record.Torn.TheVariants.{Old}
 use Rattle.nc_memory.specs.declared.record.Step.{Step}
 use Rattle.nc_memory.specs.declared.record.Event.{Event}
-use Rattle.nc_memory.specs.declared.record.Event.TheVariants.{Gets, Writes, Listed, Planted}
+use Rattle.nc_memory.specs.declared.record.Event.TheVariants.{Gets, Writes, Listed, Planted, Lost}
 use Rattle.nc_memory.specs.declared.memory.MemFleet.{MemFleet}
 use Rattle.nc_cloud.specs.Time.{Stays}
 use Rattle.nc_memory.specs.Record.{counted, failures, gifts, numbered, slipped}
@@ -21,6 +21,7 @@ stopped_event fates (Gets looks) = Gets looks
 stopped_event fates (Writes steps) = Writes (numbered (stopped_step fates) 0 steps)
 stopped_event fates (Listed cloud failed) = Listed cloud failed
 stopped_event fates (Planted cloud key bytes) = Planted cloud key bytes
+stopped_event fates (Lost cloud damage) = Lost cloud damage
 
 -- a record up to a stop in the event that stands there
 abbrev pub cut : ℕ → List Torn → List Event → List Event

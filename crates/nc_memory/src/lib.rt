@@ -18,4 +18,4 @@ mod tests;
 
 pub use mem_cloud::MemCloud;
 pub use memory::MemFleet;
-pub use record::Torn;
+pub use record::{Damage, KeyFate, KeyFates, Torn};

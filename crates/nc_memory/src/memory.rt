@@ -11,20 +11,20 @@ ghost use Rattle.nc_cloud.specs.Images.{Image};
 ghost use Rattle.nc_cloud.specs.Time.{Elapses, Stays};
 ghost use Rattle.nc_memory.specs.MomentLaws.{at_last, one_earlier, only_last, still_one};
 ghost use Rattle.nc_memory.specs.Moments.{image_of, now_of, past_of};
-ghost use Rattle.nc_memory.specs.Record.{counted, end_erase, end_job, WholeSteps};
+ghost use Rattle.nc_memory.specs.Record.{counted, end_erase, end_job, fate_in, lost, WholeSteps};
 ghost use Rattle.nc_memory.specs.Rounds.{entries_served, round_entries, round_place, rounds_in};
 ghost use Rattle.nc_memory.specs.Stops.{cut, LeavesStopped};
 ghost use Rattle.nc_memory.specs.Memory.{chunk_gets_of, contents_of, entries_of, faults_of, gets_event, log_of, refusals_of, slips_of, width_of, writes_event};
 ghost use Rattle.nc_memory.specs.Memory.{Gives, ServesDeletes, ServesGets, ServesList, ServesPuts, Takes, TakesList, Unchanged};
 
 use crate::log::Log;
-use crate::record::{Event, LookList, Refusal, StepList, Torn, gifts_in, refusal_of};
+use crate::record::{Damage, Event, LookList, Refusal, StepList, Torn, gifts_in, refusal_of};
 use crate::rounds::{count_entries, count_rounds, entries_at, find_round};
 use crate::serving::{
     answer_all, looks_of, mark_erases, mark_jobs, plan_erases, plan_puts, starve_asks,
     starve_erases, starve_jobs,
 };
-use crate::stops::{copied_refusals, cut_log, push_refusal};
+use crate::stops::{copied_damage, copied_refusals, cut_log, push_refusal};
 use nc_cloud::{Ask, CloudError, Erase, Fleet, Job, KeyList};
 use nc_name::{Blob, Key, Memory};
 use std::alloc::Global;
@@ -149,7 +149,7 @@ impl MemFleet {
         })
     }
 
-    /// The length of the record: its rounds, the lists and the objects that were planted.
+    /// The length of the record: its rounds, the lists, the objects that were planted and the losses.
     pub fn length(&self) -> u64
         ensures { result ≡ now_of self.now }
     {
@@ -177,6 +177,26 @@ impl MemFleet {
             bytes,
         };
         self.log.push(self.alloc, event)?;
+        Ok(())
+    }
+
+    /// A cloud loses objects, each in its fate. It is no round and no entry, and fails none. At `Memory` nothing
+    /// changed.
+    pub fn lose(&mut self, cloud: u8, damage: &Damage) -> Result<(), Memory>
+        requires { cloud < width_of self.old }
+        ensures ok { OnOk result (log_of self.new ≡ log_of self.old ++ Event.Lost cloud damage.now ∷ []) }
+        ensures err { OnErr result (log_of self.new ≡ log_of self.old) }
+        ensures leaves { OnOk result ((q : Key) → contents_of self.new cloud q ≡ lost (fate_in damage.now q) (contents_of self.old cloud q)) }
+        ensures others { OnOk result ((c : ℕ) (q : Key) → c ≢ cloud → contents_of self.new c q ≡ contents_of self.old c q) }
+        ensures faults { faults_of self.new ≡ faults_of self.old }
+        ensures slips { slips_of self.new ≡ slips_of self.old }
+        ensures gets { chunk_gets_of self.new ≡ chunk_gets_of self.old }
+        ensures refusals { refusals_of self.new ≡ refusals_of self.old }
+        ensures entries { entries_of self.new ≡ entries_of self.old }
+        ensures width { width_of self.new ≡ width_of self.old }
+    {
+        let damage = copied_damage(self.alloc, damage)?;
+        self.log.push(self.alloc, Event::Lost { cloud, damage })?;
         Ok(())
     }
 

@@ -1,6 +1,6 @@
 ghost use Rattle.std.specs.Prelude.{◌≡◌, ◌&&◌, ◌+◌, ◌<◌, nat_eq, find, option_map, option_copied, IfOk};
 ghost use Rattle.nc_cloud.specs.Fleet.{tally};
-ghost use Rattle.nc_memory.specs.Record.{broken, counted, gifts, step_at, left, refused_at, value_after, value};
+ghost use Rattle.nc_memory.specs.Record.{broken, counted, fate_in, gifts, step_at, left, lost, refused_at, value_after, value, without_last};
 ghost use Rattle.nc_cloud.specs.Contents.{nothing};
 
 use nc_name::{Blob, Key, Memory, Sequence};
@@ -50,6 +50,25 @@ pub type LookList = Sequence<Look>;
 /// Puts and deletes of one round.
 pub type StepList = Sequence<Step>;
 
+/// How the object of a key is left by a loss.
+#[derive(Clone, Copy, Debug)]
+pub struct KeyFate {
+    pub key: Key,
+    pub fate: Torn,
+}
+
+/// Objects that a loss leaves in other ways than the rest.
+pub type KeyFates = Sequence<KeyFate>;
+
+/// What a loss leaves of a cloud's objects: each as the first entry of `except` for its key says, else as `rest`.
+/// `Old` and `New` leave an object as it was, `Gone` takes it away, and `Broken` its last byte; an empty one stays, and
+/// none is made.
+#[derive(Debug, Drop)]
+pub struct Damage {
+    pub rest: Torn,
+    pub except: KeyFates,
+}
+
 /// What happened to a fleet.
 #[derive(Debug, Drop)]
 pub enum Event {
@@ -59,6 +78,8 @@ pub enum Event {
     Listed { cloud: u8, failed: bool },
     /// An object was placed without a round.
     Planted { cloud: u8, key: Key, bytes: Blob },
+    /// A cloud lost objects. It is no round and no entry.
+    Lost { cloud: u8, damage: Damage },
 }
 
 /// The step of a cloud.
@@ -78,12 +99,18 @@ pub(crate) fn object_written(step: &Step) -> Option<&[u8]>
     }
 }
 
+fn without_last(bytes: &[u8]) -> &[u8]
+    ensures { result.now ≡ without_last bytes.now }
+{
+    nc_bytes::part_of(bytes, 0, bytes.len().saturating_sub(1))
+}
+
 /// What a broken write leaves.
 fn object_broken<'a>(new: Option<&'a [u8]>, old: Option<&'a [u8]>) -> Option<&'a [u8]>
     ensures { option_map (λ r. r.now) result ≡ broken (option_map (λ r. r.now) new.entry) (option_map (λ r. r.now) old.entry) }
 {
     match (new, old) {
-        (Some(bytes), _) => Some(nc_bytes::part_of(bytes, 0, bytes.len().saturating_sub(1))),
+        (Some(bytes), _) => Some(without_last(bytes)),
         (None, Some(bytes)) => Some(nc_bytes::part_of(bytes, 0, 0)),
         (None, None) => None,
     }
@@ -111,6 +138,36 @@ pub(crate) fn copied_object(alloc: Global, object: Option<&[u8]>) -> Result<Opti
     }
 }
 
+/// How a loss leaves the object of a key.
+fn fate_by(damage: &Damage, key: &Key) -> Torn
+    ensures { result ≡ fate_in damage.now key.now }
+{
+    match damage.except.items().iter().find(|f| f.key.is_same(key)) {
+        Some(known) => known.fate,
+        None => damage.rest,
+    }
+}
+
+fn object_cut(old: Option<&[u8]>) -> Option<&[u8]>
+    ensures { option_map (λ r. r.now) result ≡ option_map without_last (option_map (λ r. r.now) old.entry) }
+{
+    match old {
+        Some(bytes) => Some(without_last(bytes)),
+        None => None,
+    }
+}
+
+/// What an object is after a loss, where it was `old` before.
+pub(crate) fn object_lost<'a>(damage: &Damage, key: &Key, old: Option<&'a [u8]>) -> Option<&'a [u8]>
+    ensures { option_map (λ r. r.now) result ≡ lost (fate_in damage.now key.now) (option_map (λ r. r.now) old.entry) }
+{
+    match fate_by(damage, key) {
+        Torn::Old | Torn::New => old,
+        Torn::Gone => None,
+        Torn::Broken => object_cut(old),
+    }
+}
+
 /// What an object is after an event, where it was `old` before.
 fn object_after<'a>(
     event: &'a Event,
@@ -133,6 +190,16 @@ fn object_after<'a>(
         } => {
             if *place == cloud && name.is_same(key) {
                 Some(bytes.bytes())
+            } else {
+                old
+            }
+        }
+        Event::Lost {
+            cloud: place,
+            damage,
+        } => {
+            if *place == cloud {
+                object_lost(damage, key, old)
             } else {
                 old
             }

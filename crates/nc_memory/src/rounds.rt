@@ -9,7 +9,7 @@ fn makes_round(event: &Event) -> bool
 {
     match event {
         Event::Gets(_) | Event::Writes(_) => true,
-        Event::Listed { .. } | Event::Planted { .. } => false,
+        Event::Listed { .. } | Event::Planted { .. } | Event::Lost { .. } => false,
     }
 }
 
@@ -20,7 +20,7 @@ fn size_of(event: &Event) -> usize
         Event::Gets(looks) => looks.items().len(),
         Event::Writes(steps) => steps.items().len(),
         Event::Listed { .. } => 1,
-        Event::Planted { .. } => 0,
+        Event::Planted { .. } | Event::Lost { .. } => 0,
     }
 }
 

@@ -4,9 +4,9 @@ ghost use Rattle.std.specs.Option.{ForSome};
 ghost use Rattle.nc_cloud.specs.Cloud.{Lists};
 ghost use Rattle.nc_cloud.specs.Contents.{Contents, nothing};
 ghost use Rattle.nc_memory.specs.Record.{contents_after};
-ghost use Rattle.nc_memory.specs.Shelf.{after_steps, keys_at, set_at, shelved};
+ghost use Rattle.nc_memory.specs.Shelf.{after_steps, keys_at, lost_at, lost_each, set_at, shelved};
 
-use crate::record::{Event, Step, copied_object, object_left, step_of};
+use crate::record::{Damage, Event, Step, copied_object, object_left, object_lost, step_of};
 use crate::site::Site;
 use nc_cloud::{KeyList, sorted_keys};
 use nc_name::{Blob, Key, Memory};
@@ -90,6 +90,39 @@ fn shelve_steps(alloc: Global, shelf: &mut Shelf, steps: &[Step]) -> Result<(), 
     Ok(())
 }
 
+/// What a loss leaves of an object.
+fn lose_there(alloc: Global, shelf: &mut Shelf, damage: &Damage, site: Site) -> Result<(), Memory>
+    ensures { OnOk result (shelved shelf.new ≡ lost_at damage.now site (shelved shelf.old)) }
+{
+    let left = object_lost(damage, &site.key, bytes_at(shelf, site.cloud, &site.key));
+    let object = copied_object(alloc, left)?;
+    set_there(shelf, site, object)
+}
+
+/// What a loss leaves of these objects of a cloud.
+fn lose_each(
+    alloc: Global,
+    shelf: &mut Shelf,
+    damage: &Damage,
+    cloud: u8,
+    keys: &[Key],
+) -> Result<(), Memory>
+    ensures { OnOk result (shelved shelf.new ≡ lost_each damage.now cloud keys.now (shelved shelf.old)) }
+{
+    for key in keys {
+        lose_there(alloc, shelf, damage, Site { cloud, key: *key })?;
+    }
+    Ok(())
+}
+
+/// What a loss leaves of a cloud.
+fn shelve_loss(alloc: Global, shelf: &mut Shelf, damage: &Damage, cloud: u8) -> Result<(), Memory>
+    ensures { OnOk result (shelved shelf.new ≡ contents_after (Event.Lost cloud damage.now ∷ []) (shelved shelf.old)) }
+{
+    let keys = list_there(alloc, shelf, cloud)?;
+    lose_each(alloc, shelf, damage, cloud, keys.items())
+}
+
 /// What an event leaves.
 fn shelve(alloc: Global, shelf: &mut Shelf, event: &Event) -> Result<(), Memory>
     ensures { OnOk result (shelved shelf.new ≡ contents_after (event.now ∷ []) (shelved shelf.old)) }
@@ -104,6 +137,7 @@ fn shelve(alloc: Global, shelf: &mut Shelf, event: &Event) -> Result<(), Memory>
             };
             put_there(shelf, site, Blob::from_slice(alloc, bytes.bytes())?)
         }
+        Event::Lost { cloud, damage } => shelve_loss(alloc, shelf, damage, *cloud),
     }
 }
 

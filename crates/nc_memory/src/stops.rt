@@ -4,7 +4,8 @@ ghost use Rattle.nc_memory.specs.Stops.{cut, stopped_event, stopped_step};
 
 use crate::log::{Log, push_event};
 use crate::record::{
-    Event, Look, LookList, Refusal, Step, StepList, Torn, copied_object, object_written,
+    Damage, Event, KeyFate, KeyFates, Look, LookList, Refusal, Step, StepList, Torn, copied_object,
+    object_written,
 };
 use crate::shelf::shelf_of;
 use nc_name::{Blob, Memory};
@@ -64,6 +65,25 @@ fn stopped_steps(alloc: Global, steps: &[Step], fates: &[Torn]) -> Result<StepLi
     Ok(copies)
 }
 
+fn copied_fates(alloc: Global, fates: &[KeyFate]) -> Result<KeyFates, Memory>
+    ensures { IfOk result (λ copies. copies ≡ fates.now) }
+{
+    let mut copies = KeyFates::new(alloc);
+    for fate in fates {
+        copies.push(*fate)?;
+    }
+    Ok(copies)
+}
+
+pub(crate) fn copied_damage(alloc: Global, damage: &Damage) -> Result<Damage, Memory>
+    ensures { IfOk result (λ copy. copy ≡ damage.now) }
+{
+    Ok(Damage {
+        rest: damage.rest,
+        except: copied_fates(alloc, damage.except.items())?,
+    })
+}
+
 fn copied_event(alloc: Global, event: &Event) -> Result<Event, Memory>
     ensures { IfOk result (λ copy. copy ≡ event.now) }
 {
@@ -79,6 +99,10 @@ fn copied_event(alloc: Global, event: &Event) -> Result<Event, Memory>
             key: *key,
             bytes: Blob::from_slice(alloc, bytes.bytes())?,
         }),
+        Event::Lost { cloud, damage } => Ok(Event::Lost {
+            cloud: *cloud,
+            damage: copied_damage(alloc, damage)?,
+        }),
     }
 }
 
@@ -88,7 +112,9 @@ fn stop_event(alloc: Global, event: &Event, fates: &[Torn]) -> Result<Event, Mem
 {
     match event {
         Event::Writes(steps) => Ok(Event::Writes(stopped_steps(alloc, steps.items(), fates)?)),
-        Event::Gets(_) | Event::Listed { .. } | Event::Planted { .. } => copied_event(alloc, event),
+        Event::Gets(_) | Event::Listed { .. } | Event::Planted { .. } | Event::Lost { .. } => {
+            copied_event(alloc, event)
+        }
     }
 }
 

@@ -4,7 +4,7 @@ ghost use Rattle.nc_memory.specs.Memory.{width_of};
 
 use crate::cloud_tests::{chunk, meta};
 use crate::memory::MemFleet;
-use crate::record::Torn;
+use crate::record::{Damage, KeyFate, KeyFates, Torn};
 use nc_cloud::{Answer, Ask, CloudError, Done, Erase, Fleet, Job};
 use nc_frame::seal;
 use nc_name::{Key, Memory, Name};
@@ -181,5 +181,104 @@ fn a_list_tells_what_puts_and_deletes_left(rt: HostRuntime) -> Result<(), Fail> 
     assert!(rt; keys[1].is_same(&a));
     assert_eq!(rt; fleet.rounds(), 5);
     assert_eq!(rt; fleet.length(), 7);
+    Ok(())
+}
+
+/// How long these are after a loss of cloud 1: there an object of two bytes and one of none, and one of two bytes on
+/// cloud 2.
+fn lens_lost(
+    alloc: Global,
+    key: &Key,
+    empty: &Key,
+    rest: Torn,
+) -> Result<[Option<usize>; 3], Memory> {
+    let mut fleet = MemFleet::new(alloc, 4)?;
+    fleet.plant(1, key, &[4, 4])?;
+    fleet.plant(1, empty, &[])?;
+    fleet.plant(2, key, &[4, 4])?;
+    let except = KeyFates::new(alloc);
+    fleet.lose(1, &Damage { rest, except })?;
+    if fleet.length() != 4 || fleet.rounds() != 0 {
+        return Err(Memory);
+    }
+    Ok([
+        len_of(&fleet, 1, key),
+        len_of(&fleet, 1, empty),
+        len_of(&fleet, 2, key),
+    ])
+}
+
+#[test]
+fn a_loss_leaves_objects_in_its_fate_and_no_other_cloud(rt: HostRuntime) -> Result<(), Fail> {
+    let key = meta(Name::read("a")?);
+    let empty = chunk(Name::read("b")?, 1);
+    for (rest, two, none) in [
+        (Torn::Old, Some(2), Some(0)),
+        (Torn::New, Some(2), Some(0)),
+        (Torn::Gone, None, None),
+        (Torn::Broken, Some(1), Some(0)),
+    ] {
+        let lens = lens_lost(rt.alloc(), &key, &empty, rest)?;
+        assert_eq!(rt; lens[0], two);
+        assert_eq!(rt; lens[1], none);
+        assert_eq!(rt; lens[2], Some(2));
+    }
+    Ok(())
+}
+
+#[test]
+fn a_loss_leaves_some_objects_otherwise_than_the_rest(rt: HostRuntime) -> Result<(), Fail> {
+    let a = meta(Name::read("a")?);
+    let b = Name::read("b")?;
+    let mut fleet = MemFleet::new(rt.alloc(), 4)?;
+    fleet.plant(2, &a, &[4, 4])?;
+    fleet.plant(2, &chunk(b, 0), &[4, 4, 4])?;
+    fleet.plant(2, &chunk(b, 1), &[4, 4, 4, 4])?;
+    let mut except = KeyFates::new(rt.alloc());
+    for (key, fate) in [
+        (a, Torn::Old),
+        (chunk(b, 1), Torn::Broken),
+        // the first counts
+        (chunk(b, 1), Torn::Old),
+        // there is none
+        (meta(b), Torn::Old),
+    ] {
+        except.push(KeyFate { key, fate })?;
+    }
+    let rest = Torn::Gone;
+    fleet.lose(2, &Damage { rest, except })?;
+    let list = fleet.list(2)?;
+    let keys = list.items();
+    assert_eq!(rt; keys.len(), 2);
+    // c-62-0-1, m-61-0
+    assert!(rt; keys[0].is_same(&chunk(b, 1)));
+    assert!(rt; keys[1].is_same(&a));
+    assert_eq!(rt; len_of(&fleet, 2, &chunk(b, 1)), Some(3));
+    assert_eq!(rt; len_of(&fleet, 2, &a), Some(2));
+    Ok(())
+}
+
+#[test]
+fn rounds_and_entries_go_on_after_a_loss(rt: HostRuntime) -> Result<(), Fail> {
+    let key = chunk(Name::read("a")?, 0);
+    let mut fleet = MemFleet::new(rt.alloc(), 4)?;
+    fleet.refuse(3, Torn::Old)?;
+    put(rt.alloc(), &mut fleet, 1, &key, &[4, 4])?;
+    assert!(rt; gave(&get(&mut fleet, 1, &key, 58), 58));
+    let rest = Torn::Broken;
+    let except = KeyFates::new(rt.alloc());
+    fleet.lose(1, &Damage { rest, except })?;
+    assert_eq!(rt;
+        put(rt.alloc(), &mut fleet, 1, &key, &[5, 6, 7])?,
+        Done::Failed
+    );
+    assert_eq!(rt; fleet.gets(1), 1);
+    assert_eq!(rt; fleet.rounds(), 3);
+    assert_eq!(rt; fleet.length(), 4);
+    // the loss came before the last round
+    let before = fleet.stopped(1, &[])?;
+    assert_eq!(rt; len_of(&before, 1, &key), Some(58));
+    let after = fleet.stopped(2, &[Torn::Old])?;
+    assert_eq!(rt; len_of(&after, 1, &key), Some(57));
     Ok(())
 }

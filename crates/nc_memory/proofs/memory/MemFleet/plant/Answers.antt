@@ -1,8 +1,8 @@
 use Rattle.std.proofs.Common.{◌≡◌, ◌++◌, ◌∷◌, [], refl, ap, ◌∙◌}
 use Rattle.nc_memory.specs.declared.record.Event.TheVariants.{Planted}
-use Rattle.nc_memory.specs.Record.{contents_after, counted, failed_in, failures, gifts, given_in, slipped, slipped_in}
+use Rattle.nc_memory.specs.Record.{contents_after, failed_in, given_in, slipped_in}
 use Rattle.nc_cloud.specs.Contents.{nothing}
-use Rattle.nc_memory.proofs.RecordLaws.{planted_counts, planted_others, planted_there}
+use Rattle.nc_memory.proofs.RecordLaws.{planted_others, planted_there, uncounted}
 use Rattle.nc_memory.proofs.memory.MemFleet.plant.Goals as goal
 
 -- the record, and with it what follows from it
@@ -16,10 +16,10 @@ pub returns-clause-others : goal.returns-clause-others
 returns-clause-others c = λ k q other. ap (λ es. contents_after es nothing k q) (recorded c) ∙ planted_others c.args.self.now.log.events.items c.args.cloud c.args.key.now c.args.bytes.now k q other
 
 pub returns-clause-faults : goal.returns-clause-faults
-returns-clause-faults c = ap (λ es k. counted (failures es k)) (recorded c) ∙ (λ i k. counted (planted_counts failed_in (λ cloud key bytes d. refl) c.args.self.now.log.events.items c.args.cloud c.args.key.now c.args.bytes.now k i))
+returns-clause-faults c = uncounted failed_in c.args.self.now.log.events.items (Planted c.args.cloud c.args.key.now c.args.bytes.now) (λ k. refl) (recorded c)
 
 pub returns-clause-slips : goal.returns-clause-slips
-returns-clause-slips c = ap (λ es k. counted (slipped es k)) (recorded c) ∙ (λ i k. counted (planted_counts slipped_in (λ cloud key bytes d. refl) c.args.self.now.log.events.items c.args.cloud c.args.key.now c.args.bytes.now k i))
+returns-clause-slips c = uncounted slipped_in c.args.self.now.log.events.items (Planted c.args.cloud c.args.key.now c.args.bytes.now) (λ k. refl) (recorded c)
 
 pub returns-clause-gets : goal.returns-clause-gets
-returns-clause-gets c = ap (λ es k. counted (gifts es k)) (recorded c) ∙ (λ i k. counted (planted_counts given_in (λ cloud key bytes d. refl) c.args.self.now.log.events.items c.args.cloud c.args.key.now c.args.bytes.now k i))
+returns-clause-gets c = uncounted given_in c.args.self.now.log.events.items (Planted c.args.cloud c.args.key.now c.args.bytes.now) (λ k. refl) (recorded c)
