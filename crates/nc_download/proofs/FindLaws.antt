@@ -11,8 +11,8 @@ use Rattle.nc_settle.specs.Looking.{HasMetas, HasWidth}
 use Rattle.nc_settle.specs.Failing.{fails}
 use Rattle.nc_settle.proofs.Failures.{failing_has}
 use Rattle.nc_settle.proofs.Seen.{meta_fits}
-use Rattle.nc_download.specs.declared.fetching.FetchFault.{FetchFault}
-use Rattle.nc_download.specs.declared.fetching.FetchFault.TheVariants.{Memory}
+use Rattle.nc_download.specs.declared.fault.FetchFault.{FetchFault}
+use Rattle.nc_download.specs.declared.fault.FetchFault.TheVariants.{Memory}
 use Rattle.nc_download.specs.Seeing.{Refuses, Shows}
 use Rattle.nc_download.specs.Finding.{Finds, FindShows, HasRisen, SeenNow}
 use Rattle.nc_download.specs.FindingOnVaults.{HasAll}

@@ -1,8 +1,5 @@
 pub mod Judged
-pub mod Sorted
-pub mod ReadLaws
-pub mod FetchLaws
+pub mod ChunkLaws
 pub mod ViewLaws
 pub mod FindLaws
 pub mod ListLaws
-pub mod ShownLaws

@@ -18,8 +18,8 @@ use Rattle.nc_settle.specs.Looking.{HasWidth, OnlyFailuresRose, OthersRose, Sees
 use Rattle.nc_settle.specs.MetaWrites.{named}
 use Rattle.nc_settle.specs.Failing.{fails, FewFail, NamesFailing}
 use Rattle.nc_settle.proofs.Failures.{failed_at, failing_has}
-use Rattle.nc_download.specs.declared.fetching.FetchFault.{FetchFault}
-use Rattle.nc_download.specs.declared.fetching.FetchFault.TheVariants.{NoFile, Memory}
+use Rattle.nc_download.specs.declared.fault.FetchFault.{FetchFault}
+use Rattle.nc_download.specs.declared.fault.FetchFault.TheVariants.{NoFile, Memory}
 use Rattle.nc_download.specs.declared.listing.ListStop.{ListStop}
 use Rattle.nc_download.specs.Seeing.{Refuses, ShowsOr, ShowsNothing, ShowsGone, is_no_file}
 use Rattle.nc_download.specs.FindingOnVaults.{HasAll}

@@ -19,13 +19,13 @@ use Rattle.nc_settle.specs.Decisions.{SeesTop}
 use Rattle.nc_settle.specs.Failing.{fails}
 use Rattle.nc_settle.proofs.Failures.{failing_is}
 use Rattle.nc_settle.proofs.Outside.{no_conflict_with, no_misplaced, none_outside, top_outside}
-use Rattle.nc_download.specs.declared.fetching.FetchFault.{FetchFault}
-use Rattle.nc_download.specs.declared.fetching.FetchFault.TheVariants.{NoFile, Cloud, Short, Conflict, Misplaced, Unsound, Memory}
+use Rattle.nc_download.specs.declared.fault.FetchFault.{FetchFault}
+use Rattle.nc_download.specs.declared.fault.FetchFault.TheVariants.{NoFile, Cloud, Short, Conflict, Misplaced, Unsound, Memory}
 use Rattle.nc_download.specs.Seeing.{Refuses, Shows}
 use Rattle.nc_download.specs.FindingOnVaults.{HasAll, IsShownFile, IsShownNone, LookShows}
 
 -- a version with live metadata is a file
-pub stored_of : (x : Version) (m : LiveMeta) → meta_of x ≡ Some (Live m) → (v : List ℕ) × (x ≡ Stored m v)
+stored_of : (x : Version) (m : LiveMeta) → meta_of x ≡ Some (Live m) → (v : List ℕ) × (x ≡ Stored m v)
 stored_of Never m e = absurd cc
 stored_of (Removed generation) m e = absurd cc
 stored_of (Stored k v) m e = let same : k ≡ m = cc in (v, ap (λ (l : LiveMeta). Stored l v) same)

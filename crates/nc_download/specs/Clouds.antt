@@ -1,12 +1,11 @@
 -- The clouds that give chunks to a file, and those that don't.
-use Rattle.std.specs.Prelude.{ℕ, ◌≡◌, ◌<◌, Option, Result, Ok, Err, List, length}
+use Rattle.std.specs.Prelude.{ℕ, ◌<◌, Option, List}
+use Rattle.nc_native.specs.Native.{combination}
+use Rattle.nc_code.specs.Codes.{code_row}
 use Rattle.nc_cloud.specs.Contents.{Contents}
 use Rattle.nc_meta.specs.declared.meta.Live.{Live}
 use Rattle.nc_download.specs.declared.short.How.{How}
-use Rattle.nc_download.specs.declared.short.Why.{Why}
-use Rattle.nc_download.specs.declared.short.Why.TheVariants.{Failed, Row}
-use Rattle.nc_download.specs.declared.sorting.Pair.{Pair}
-use Rattle.nc_download.specs.Chunks.{wanted_of, IsGoodChunk, ChunkIs}
+use Rattle.nc_download.specs.Chunks.{wanted_of, ChunkIs, HoldsPayload, IsGoodChunk}
 
 -- what cloud c holds where its chunk of row r is to stand
 abbrev pub held_at : ℕ → List ℕ → Live → Contents → ℕ → ℕ → Option (List ℕ)
@@ -37,17 +36,10 @@ pub record IsFirstBad (n : ℕ) (name : List ℕ) (m : Live) (F : Contents) (c r
   pub before : (q : ℕ) → q < r → (payload : List ℕ) × IsGoodRow n name m F c q payload
   pub here : IsBadRow n name m F c r how
 
--- why cloud c isn't good, where it answered
-abbrev pub CauseOf : ℕ → List ℕ → Live → Contents → ℕ → Why → Type 0
-CauseOf n name m F c Failed = ⊥
-CauseOf n name m F c (Row r how) = IsFirstBad n name m F c r how
+-- the chunk of the file v that row r of cloud c gives
+abbrev pub chunk_of : ℕ → Live → List ℕ → ℕ → ℕ → List ℕ
+chunk_of n m v r c = combination (code_row m.code c r) v n
 
--- both payloads of a good cloud, or why it isn't good
-abbrev pub IsCloudJudged : ℕ → List ℕ → Live → Contents → ℕ → Result Pair Why → Type 0
-IsCloudJudged n name m F c (Ok pair) = AreGoodRows n name m F c pair.zero.now pair.one.now
-IsCloudJudged n name m F c (Err why) = CauseOf n name m F c why
-
--- both payloads have so many bytes
-pub record IsPair (size : ℕ) (pair : Pair) : Type 0 where
-  pub zero : length pair.zero.now ≡ size
-  pub one : length pair.one.now ≡ size
+-- cloud c holds both chunks of the file v
+pub record HoldsChunksOf (n : ℕ) (name : List ℕ) (m : Live) (v : List ℕ) (F : Contents) (c : ℕ) : Type 0 where
+  pub row : (r : ℕ) → r < 2 → HoldsPayload (wanted_of n name m r c) (held_at n name m F c r) (chunk_of n m v r c)

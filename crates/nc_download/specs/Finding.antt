@@ -7,8 +7,8 @@ use Rattle.nc_state.specs.Clouds.{Clouds}
 use Rattle.nc_state.specs.Vaults.{ForEachVault}
 use Rattle.nc_settle.specs.Views.{Places}
 use Rattle.nc_settle.specs.Looking.{HasWidth, Sees, FailuresRose, OnlyFailuresRose}
-use Rattle.nc_download.specs.declared.fetching.FetchFault.{FetchFault}
-use Rattle.nc_download.specs.declared.fetching.FetchFault.TheVariants as fault
+use Rattle.nc_download.specs.declared.fault.FetchFault.{FetchFault}
+use Rattle.nc_download.specs.declared.fault.FetchFault.TheVariants as fault
 use Rattle.nc_download.specs.Seeing.{Refuses, Shows}
 use Rattle.nc_download.specs.FindingOnVaults.{LookShows}
 

@@ -7,8 +7,8 @@ use Rattle.nc_state.specs.Showing.{AreBearable, ReadsAs}
 use Rattle.nc_state.specs.Vaults.{Vault}
 use Rattle.nc_state.specs.Versions.{IsValidFor, Version}
 use Rattle.nc_state.specs.Versions.Version.{Stored}
-use Rattle.nc_download.specs.declared.fetching.FetchFault.{FetchFault}
-use Rattle.nc_download.specs.declared.fetching.FetchFault.TheVariants as fault
+use Rattle.nc_download.specs.declared.fault.FetchFault.{FetchFault}
+use Rattle.nc_download.specs.declared.fault.FetchFault.TheVariants as fault
 
 -- the name shows a file with this metadata, which is valid, and whose chunks stand
 pub record IsShownFile (n : ℕ) (V : Vault) (X : Clouds) (name : List ℕ) (m : Live) : Type 0 where

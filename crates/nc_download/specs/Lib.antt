@@ -1,12 +1,7 @@
 pub mod Chunks
 pub mod Clouds
-pub mod Fetching
 pub mod Finding
 pub mod FindingOnVaults
 pub mod Listing
 pub mod ListingOnVaults
-pub mod Reading
 pub mod Seeing
-pub mod Showing
-pub mod Sorting
-pub mod OnVaults

@@ -7,8 +7,8 @@ use Rattle.nc_state.specs.Clouds.{Clouds, count_of}
 use Rattle.nc_settle.specs.Views.{Places}
 use Rattle.nc_settle.specs.Looking.{HasWidth, Sees}
 use Rattle.nc_settle.specs.Failing.{fails}
-use Rattle.nc_download.specs.declared.fetching.FetchFault.{FetchFault}
-use Rattle.nc_download.specs.declared.fetching.FetchFault.TheVariants as fault
+use Rattle.nc_download.specs.declared.fault.FetchFault.{FetchFault}
+use Rattle.nc_download.specs.declared.fault.FetchFault.TheVariants as fault
 use Rattle.nc_download.specs.declared.listing.ListStop.{ListStop}
 use Rattle.nc_download.specs.FindingOnVaults.{HasAll}
 use Rattle.nc_download.specs.Seeing.{Refuses, ShowsOr}

@@ -5,8 +5,8 @@ use Rattle.nc_meta.specs.declared.meta.Live.{Live}
 use Rattle.nc_state.specs.Clouds.{Clouds}
 use Rattle.nc_state.specs.Showing.{AreBearable}
 use Rattle.nc_state.specs.Vaults.{ForEachVault, Vault}
-use Rattle.nc_download.specs.declared.fetching.FetchFault.{FetchFault}
-use Rattle.nc_download.specs.declared.fetching.FetchFault.TheVariants as fault
+use Rattle.nc_download.specs.declared.fault.FetchFault.{FetchFault}
+use Rattle.nc_download.specs.declared.fault.FetchFault.TheVariants as fault
 use Rattle.nc_download.specs.FindingOnVaults.{HasAll, IsOneOfThree, IsShownFile, IsShownNone}
 
 -- the name shows a file of this length, or none

@@ -5,8 +5,8 @@ use Rattle.nc_meta.specs.declared.meta.Meta.TheVariants.{Live, Gone}
 use Rattle.nc_settle.specs.Views.{Places}
 use Rattle.nc_settle.specs.Decisions.{NoneMisplaced, IsLeastMisplaced, SeesNone, SeesTop, IsConflict, NoConflict}
 use Rattle.nc_settle.specs.Failing.{FewFail, TooManyFail}
-use Rattle.nc_download.specs.declared.fetching.FetchFault.{FetchFault}
-use Rattle.nc_download.specs.declared.fetching.FetchFault.TheVariants.{NoFile, Cloud, Conflict, Misplaced}
+use Rattle.nc_download.specs.declared.fault.FetchFault.{FetchFault}
+use Rattle.nc_download.specs.declared.fault.FetchFault.TheVariants.{NoFile, Cloud, Conflict, Misplaced}
 
 -- the highest metadata that was seen is this, and no other of its generation was
 pub record Shows (v : Places) (live : LiveMeta) : Type 0 where
@@ -35,6 +35,12 @@ Refuses v NoFile = (ShowsNothing v × NoneMisplaced v) ⊎ ShowsGone v
 Refuses v (Misplaced c a b) = ShowsNothing v × IsLeastMisplaced v c a b
 Refuses v (Conflict g a b) = FewFail v × IsConflict v g a b
 Refuses v other = ⊥
+
+-- why it shows none where no metadata of the clouds' own was seen
+abbrev pub SeesNoMeta : Places → FetchFault → Type 0
+SeesNoMeta v NoFile = NoneMisplaced v
+SeesNoMeta v (Misplaced c a b) = IsLeastMisplaced v c a b
+SeesNoMeta v other = ⊥
 
 abbrev pub is_no_file : FetchFault → Bool
 is_no_file NoFile = true

@@ -4,7 +4,7 @@ ghost use Rattle.nc_cloud.specs.Deciding.{OnlyLooked};
 ghost use Rattle.nc_cloud.specs.Stopping.{Stops};
 ghost use Rattle.nc_download.specs.Finding.{Finds, FindShows};
 
-use crate::fetching::FetchFault;
+use crate::fault::FetchFault;
 use crate::showing::shown;
 use nc_cloud::Fleet;
 use nc_meta::Live;

@@ -1,6 +1,6 @@
-ghost use Rattle.std.specs.Prelude.{◌≡◌, Option, Some, List, ℕ, IfOk, length, true};
+ghost use Rattle.std.specs.Prelude.{◌≡◌, Option, Some, List, ℕ, IfOk, OnOk, length, true};
 ghost use Rattle.nc_name.specs.Keys.{Slots};
-ghost use Rattle.nc_cloud.specs.Fleet.{Shows};
+ghost use Rattle.nc_cloud.specs.Fleet.{is_bytes, Shows};
 ghost use Rattle.nc_download.specs.Chunks.{frame_len, IsJudged};
 ghost use Rattle.nc_cloud.specs.Deciding.{IsSeen};
 
@@ -29,8 +29,11 @@ pub struct Wanted {
 pub fn judge<'a>(wanted: &Wanted, answer: &'a Answer) -> Result<&'a [u8], How>
     requires slots { Slots wanted.now.key }
     requires seen { IsSeen answer.now ≡ true }
-    ensures verdict { (held : Option (List ℕ)) → Shows answer.now (frame_len wanted.now) held → IsJudged wanted.now held result }
+    ensures verdict { (held : Option (List ℕ))
+        → Shows answer.now (frame_len wanted.now) held
+        → IsJudged wanted.now held result }
     ensures long { IfOk result (λ payload. length payload.now ≡ wanted.now.size) }
+    ensures given { OnOk result (is_bytes answer.now ≡ true) }
 {
     match answer {
         Answer::Bytes(blob) => judge_bytes(wanted, blob.bytes()),

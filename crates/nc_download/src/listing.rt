@@ -6,7 +6,7 @@ ghost use Rattle.nc_download.specs.Listing.{AreListed, FailMore, FindRefuses, Li
 ghost use Rattle.nc_download.specs.ListingOnVaults.{AllShow, StopsFor};
 ghost use Rattle.nc_download.specs.Seeing.{is_no_file, ShowsOr};
 
-use crate::fetching::FetchFault;
+use crate::fault::FetchFault;
 use crate::showing::shown;
 use nc_cloud::Fleet;
 use nc_name::{Memory, Name};
@@ -33,13 +33,19 @@ pub fn find_all<F: Fleet>(
     requires ready { F.ready }
     requires wide { 4 ≤ F.clouds fleet.old }
     requires narrow { F.clouds fleet.old ≤ 10 }
-    ensures listed { IfOk result (λ lens. AreListed F.Fleet fleet.old names.now (length names.now) (named failed.old) (named failed.new) lens.items) }
-    ensures refused { IfErr result (ListRefuses F.Fleet names.now (named failed.old) (named failed.new) fleet.old fleet.new) }
-    ensures shows { F.tells → IfOk result (λ lens. AllShow F.Fleet fleet.old names.now (named failed.new) lens.items) }
-    ensures stopped { F.tells → IfErr result (λ stop. StopsFor F.Fleet fleet.old (named failed.new) stop.fault) }
+    ensures listed { IfOk result
+        (λ lens. AreListed F.Fleet fleet.old names.now (length names.now)
+        (named failed.old) (named failed.new) lens.items) }
+    ensures refused { IfErr result
+        (ListRefuses F.Fleet names.now (named failed.old) (named failed.new) fleet.old fleet.new) }
+    ensures shows { F.tells
+        → IfOk result (λ lens. AllShow F.Fleet fleet.old names.now (named failed.new) lens.items) }
+    ensures stopped { F.tells
+        → IfErr result (λ stop. StopsFor F.Fleet fleet.old (named failed.new) stop.fault) }
     ensures few { OnOk result (StayFew (F.clouds fleet.old) (named failed.old) (named failed.new)) }
     ensures more { FailMore F.Fleet (named failed.old) (named failed.new) fleet.old fleet.new }
-    ensures only { F.counts_exactly → OnOk result (OnlyMore F.Fleet (named failed.old) (named failed.new) fleet.old fleet.new) }
+    ensures only { F.counts_exactly
+        → OnOk result (OnlyMore F.Fleet (named failed.old) (named failed.new) fleet.old fleet.new) }
     ensures looked { OnlyLooked F.Fleet fleet.old fleet.new }
     ensures stops { Stops F.Fleet fleet.old fleet.new (λ G. G ≡ F.held fleet.old) }
     ensures gets { (c : ℕ) → F.chunk_gets fleet.new c ≡ F.chunk_gets fleet.old c }
@@ -77,10 +83,14 @@ fn find_without<F: Fleet>(
     requires ready { F.ready }
     requires wide { 4 ≤ F.clouds fleet.old }
     requires narrow { F.clouds fleet.old ≤ 10 }
-    ensures found { IfOk result (λ len. SeenOf F.Fleet fleet.old name.now (named failed.new) (named failed.new) (ShowsOr len)) }
-    ensures refused { IfErr result (FindRefuses F.Fleet name.now (named failed.old) (named failed.new) fleet.old fleet.new) }
+    ensures found { IfOk result
+        (λ len. SeenOf F.Fleet fleet.old name.now
+        (named failed.new) (named failed.new) (ShowsOr len)) }
+    ensures refused { IfErr result
+        (FindRefuses F.Fleet name.now (named failed.old) (named failed.new) fleet.old fleet.new) }
     ensures more { FailMore F.Fleet (named failed.old) (named failed.new) fleet.old fleet.new }
-    ensures only { F.counts_exactly → OnOk result (OnlyMore F.Fleet (named failed.old) (named failed.new) fleet.old fleet.new) }
+    ensures only { F.counts_exactly
+        → OnOk result (OnlyMore F.Fleet (named failed.old) (named failed.new) fleet.old fleet.new) }
     ensures looked { OnlyLooked F.Fleet fleet.old fleet.new }
     ensures stops { Stops F.Fleet fleet.old fleet.new (λ G. G ≡ F.held fleet.old) }
     ensures gets { (c : ℕ) → F.chunk_gets fleet.new c ≡ F.chunk_gets fleet.old c }

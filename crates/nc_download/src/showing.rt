@@ -1,8 +1,7 @@
 ghost use Rattle.std.specs.Prelude.{IfErr, IfOk};
-ghost use Rattle.nc_download.specs.Seeing.{Refuses, Shows};
-ghost use Rattle.nc_download.specs.Showing.{SeesNoMeta};
+ghost use Rattle.nc_download.specs.Seeing.{Refuses, SeesNoMeta, Shows};
 
-use crate::fetching::FetchFault;
+use crate::fault::FetchFault;
 use nc_meta::{Live, Meta};
 use nc_settle::View;
 
@@ -30,8 +29,8 @@ pub fn shown(view: &View) -> Result<Live, FetchFault>
     }
 }
 
-/// Why no file is shown where no cloud holds metadata of its own.
-pub(crate) fn nothing(view: &View) -> FetchFault
+/// Why no file is shown where no cloud was seen to hold metadata of its own.
+fn nothing(view: &View) -> FetchFault
     ensures { SeesNoMeta view.now result }
 {
     match view.misplaced() {

@@ -1,8 +1,9 @@
 pub mod BearingLaws
 pub mod DrawingLaws
+mod GetCounts
 pub mod GetLaws
 pub mod ListingLaws
-mod Members
+pub mod Members
 mod NameLaws
 pub mod NameParts
 pub mod OneName
@@ -13,6 +14,7 @@ pub mod RecoverPart
 mod RecoverStates
 pub mod RemoveLaws
 mod SameName
+mod SeenLaws
 pub mod RowLaws
 pub mod StatLaws
 mod TidyLaws

@@ -1,27 +1,24 @@
 -- What lists and looks say of a list of all files.
-use Rattle.std.proofs.Common.{◌≡◌, ◌≤◌, ◌<◌, ◌⊎◌, ◌||◌, ◌&&◌, ◌==◌, ◌+◌, ◌-◌, ◌^◌, ℕ, Bool, true, false, not, min, nat_le, if◌then◌else◌, Option, None, Some, List, [], All, Contains, length, slice_index_or, inl, inr, refl, sym, ap, ◌∙◌, subst, arith}
+use Rattle.std.proofs.Common.{◌≡◌, ◌≤◌, ◌<◌, ◌||◌, ℕ, Bool, true, false, not, Option, Some, List, [], All, Contains, length, slice_index_or, inl, inr, refl, sym, ap, ◌∙◌, subst, arith}
 use Rattle.std.proofs.lemmas.Bool.{cases_Bool}
-use Rattle.std.proofs.lemmas.Bool.Decides.{eqb_tells}
 use Rattle.nc_name.specs.Counts.{Rose}
 use Rattle.nc_name.specs.Names.{IsName}
-use Rattle.nc_cloud.specs.Contents.{Contents, Grows}
+use Rattle.nc_cloud.specs.Contents.{Contents}
 use Rattle.nc_cloud.specs.Deciding.{OnlyLooked}
 use Rattle.nc_cloud.specs.Stopping.{Stops}
 use Rattle.nc_cloud.specs.declared.fleet.Fleet.{Ghosts as FleetGhosts}
 use Rattle.nc_cloud.proofs.Time.{stops_twice}
 use Rattle.nc_state.specs.Clouds.{Clouds, count_of}
-use Rattle.nc_state.specs.Showing.{AreBearable}
 use Rattle.nc_state.specs.Vaults.{ForEachVault, Vault}
-use Rattle.nc_settle.specs.Decisions.{HasFailed}
 use Rattle.nc_settle.specs.Failing.{FewFail, TooManyFail, fails}
 use Rattle.nc_settle.specs.Views.{Places}
 use Rattle.nc_settle.proofs.Failures.{failing_has, failing_is}
 use Rattle.nc_names.specs.Listing.{AreNamesOutside, AreSortedNames, HaveRisen, OnlyListed, StayOutside}
-use Rattle.nc_download.specs.declared.fetching.FetchFault.{FetchFault}
-use Rattle.nc_download.specs.declared.fetching.FetchFault.TheVariants as fetch
+use Rattle.nc_download.specs.declared.fault.FetchFault.{FetchFault}
+use Rattle.nc_download.specs.declared.fault.FetchFault.TheVariants as fetch
 use Rattle.nc_download.specs.declared.listing.ListStop.{ListStop}
 use Rattle.nc_download.specs.FindingOnVaults.{HasAll}
-use Rattle.nc_download.specs.Listing.{FailMore, FindRefuses, IsRefused, ListRefuses, OnlyMore, SeenOf, StayFew}
+use Rattle.nc_download.specs.Listing.{AreListed, FailMore, FindRefuses, IsRefused, ListRefuses, OnlyMore, SeenOf, StayFew}
 use Rattle.nc_download.specs.ListingOnVaults.{AllShow, ListStops, NamesShow, StopsFor}
 use Rattle.nc_download.specs.Seeing.{Refuses}
 use Rattle.nc_download.proofs.ListLaws.{seen_before}
@@ -38,11 +35,13 @@ use Rattle.nc_vault.specs.Counting.{CountsGrow, CountsSay, IsLeastOfMany, failed
 use Rattle.nc_vault.specs.Faults.{fault_of_fetch}
 use Rattle.nc_vault.specs.Listing.{IsLeastOfThree, rows_of}
 use Rattle.nc_vault.specs.Replies.{RepliesTo}
+use Rattle.nc_vault.specs.Seeing.{ListsBut, ListsNone, LooksOn, RefusesName}
 use Rattle.nc_vault.specs.Vaults.{WorksOn}
 use Rattle.nc_vault.proofs.Members.{in_none}
 use Rattle.nc_vault.proofs.OneName.{rose_is}
 use Rattle.nc_vault.proofs.ReadLaws.{OnlyReads, reads_done, reads_only, reads_stopped}
 use Rattle.nc_vault.proofs.RowLaws.{reads_list}
+use Rattle.nc_vault.proofs.SeenLaws.{moved_not}
 
 -- ---- the clouds of which a count rose
 
@@ -64,13 +63,6 @@ rose_true before now is = without (rose before now) (rose_is before now false is
     without : (b : Bool) → (b || false) ≡ true → b ≡ true
     without true is = refl
     without false is = is
-
-moved_not : (before now : ℕ) → now ≡ before → moved before now ≡ false
-moved_not before now same =
-    elim (eqb_tells now before) [
-      | inl is ↦ ap not is.0
-      | inr differ ↦ absurd (differ.1 same)
-    ]
 
 -- ---- clouds that were only listed and asked
 
@@ -278,6 +270,18 @@ stays G H fault.Worn after same = tt
 stays G H (fault.Spent tried) after same = tt
 stays G H fault.Memory after same = tt
 
+-- a name that wasn't told
+refused_none : {A : Type 0} (F : FleetGhosts A) (old new : A) (cause : Fault) (after : Option ℕ) → RefusesName F old new cause after → ListsNone F old new cause after
+refused_none F old new fault.NoFile after is = inr is
+refused_none F old new (fault.Cloud c) after is = inr is
+refused_none F old new (fault.Short bads) after is = inr is
+refused_none F old new (fault.Conflict g a b) after is = inr is
+refused_none F old new (fault.Misplaced c a b) after is = inr is
+refused_none F old new (fault.Unsound a b) after is = inr is
+refused_none F old new fault.Worn after is = inr is
+refused_none F old new (fault.Spent tried) after is = inr is
+refused_none F old new fault.Memory after is = tt
+
 -- ---- all of it
 
 module _ {A : Type 0} (F : FleetGhosts A) (s : Setting) (bytes : List ℕ) (old new : A) (read : IsRead F old new) where
@@ -290,9 +294,9 @@ module _ {A : Type 0} (F : FleetGhosts A) (s : Setting) (bytes : List ℕ) (old 
   none_among : (names : List (List ℕ)) (of : List ℕ) → WorksOn (F.clouds old) (F.held old) act.List names → Contains names of → ⊥
   none_among names of works among = in_none of (subst (λ (ns : List (List ℕ)). Contains ns of) works among)
 
-  list_stopped : (f : Fault) (done : ℕ) → CountsSay F act.List old new (reply.Stopped f (Some done)) → (F.tells → ForEachVault (F.clouds old) (F.held old) (RepliesTo F task old new (reply.Stopped f (Some done))))
+  list_stopped : (f : Fault) (done : ℕ) → CountsSay F act.List old new (reply.Stopped f (Some done)) → ListsNone F old new f (Some done) → (F.tells → ForEachVault (F.clouds old) (F.held old) (RepliesTo F task old new (reply.Stopped f (Some done))))
       → Acted F task old new (reply.Stopped f (Some done))
-  list_stopped f done counts replies = record {
+  list_stopped f done counts sees replies = record {
     clouds = read.clouds;
     grows = read.grows;
     time = read.stops.time;
@@ -302,6 +306,8 @@ module _ {A : Type 0} (F : FleetGhosts A) (s : Setting) (bytes : List ℕ) (old 
     before = stays (F.held old) (F.held new) f (Some done) read.held;
     only = λ told. reads_only F task reads read.held read.stops;
     says = λ told. tt;
+    sees = sees;
+    reads = λ told. record { each = λ S D stands. tt };
     stands = λ told. reads_stopped F task reads read.held read.stops (Some done) refl f told;
     replies = replies;
     tidy = λ told sure not. tt;
@@ -309,27 +315,28 @@ module _ {A : Type 0} (F : FleetGhosts A) (s : Setting) (bytes : List ℕ) (old 
 
   -- no memory was found
   pub list_memory : (done : ℕ) → Acted F task old new (reply.Stopped fault.Memory (Some done))
-  list_memory done = list_stopped fault.Memory done tt (λ told. record { each = λ S D stands. tt })
+  list_memory done = list_stopped fault.Memory done tt tt (λ told. record { each = λ S D stands. tt })
 
   -- three lists failed
-  pub list_failed : (P : Clouds) (c : ℕ) → HaveFailed F old new P → IsLeastOfThree (F.clouds old) P c → Acted F task old new (reply.Stopped (fault.Cloud c) (Some 0))
-  list_failed P c failed least =
+  pub list_failed : (P : Clouds) (c : ℕ) → ListsBut F old new P → HaveFailed F old new P → IsLeastOfThree (F.clouds old) P c → Acted F task old new (reply.Stopped (fault.Cloud c) (Some 0))
+  list_failed P c lists failed least =
       let many = least_many F old new P failed c least in
-      list_stopped (fault.Cloud c) 0 many (λ told. record { each = λ S D stands. many.failed })
+      list_stopped (fault.Cloud c) 0 many (inl (record { unlisted = P; lists = lists; cloud = c; least = least; is = refl; first = refl })) (λ told. record { each = λ S D stands. many.failed })
 
   -- a name wasn't told
-  pub list_refused : (f : FetchFault) (done : ℕ) → CountsSay F act.List old new (reply.Stopped (fault_of_fetch f) (Some done))
+  pub list_refused : (f : FetchFault) (done : ℕ) → CountsSay F act.List old new (reply.Stopped (fault_of_fetch f) (Some done)) → RefusesName F old new (fault_of_fetch f) (Some done)
       → (F.tells → ForEachVault (F.clouds old) (F.held old) (ListStops (F.clouds old) (failing_in F act.List old new) f)) → Acted F task old new (reply.Stopped (fault_of_fetch f) (Some done))
-  list_refused f done counts stops =
-      list_stopped (fault_of_fetch f) done counts (λ told. record {
+  list_refused f done counts refuses stops =
+      list_stopped (fault_of_fetch f) done counts (refused_none F old new (fault_of_fetch f) (Some done) refuses) (λ told. record {
         each = λ S D stands. stops_at F s bytes old new (record { contents = F.held old; entries = S; damaged = D }) f done ((stops told).each S D stands);
       })
 
   -- all names are told
-  pub list_told : (P Q : Clouds) (names : List (List ℕ)) (lens : List (Option ℕ)) (rows : List FileRow) → rows ≡ rows_of names lens → HaveFailed F old new Q → count_of (F.clouds old) Q ≤ 2
+  pub list_told : (mid : A) (P Q : Clouds) (names : List (List ℕ)) (lens : List (Option ℕ)) (rows : List FileRow) → rows ≡ rows_of names lens → LooksOn F old mid new P Q
+      → AreListed F mid names (length names) P Q lens → HaveFailed F old new Q → count_of (F.clouds old) Q ≤ 2
       → HasAll (F.clouds old) P Q → All IsName names → AreSortedNames names → length lens ≡ length names → (F.tells → AreNamesOutside (F.clouds old) (F.held old) P names)
       → (F.tells → ForEachVault (F.clouds old) (F.held old) (NamesShow (F.clouds old) (failing_in F act.List old new) names lens)) → Acted F task old new (reply.Listing rows)
-  list_told P Q names lens rows are failed few within valid sorted long listed shows =
+  list_told mid P Q names lens rows are looks seen failed few within valid sorted long listed shows =
       subst (λ (r : List FileRow). Acted F task old new (reply.Listing r)) (sym are)
       (record {
         clouds = read.clouds;
@@ -341,6 +348,8 @@ module _ {A : Type 0} (F : FleetGhosts A) (s : Setting) (bytes : List ℕ) (old 
         before = tt;
         only = λ told. reads_only F task reads read.held read.stops;
         says = λ told. tt;
+        sees = record { mid = mid; unlisted = P; failed = Q; looks = looks; few = few; names = names; sorted = sorted; are_names = listed; lens = lens; seen = seen; are = refl };
+        reads = λ told. record { each = λ S D stands. tt };
         stands = reads_done F task reads read.held read.stops (reply.Listing (rows_of names lens)) (λ V done. done);
         replies = λ told. record {
           each = λ S D stands few_damaged.
@@ -364,18 +373,23 @@ module _ {A : Type 0} (F : FleetGhosts A) (s : Setting) (bytes : List ℕ) (old 
   pub told_none : (done : ℕ) → Acted F (task_of s act.List bytes) old new (reply.Stopped fault.Memory (Some done))
   told_none done = list_memory F s bytes old new read_by done
 
-  pub told_stop : (names : List (List ℕ)) (stop : ListStop) → ListRefuses F names P Q mid new stop → (F.tells → StopsFor F mid Q stop.fault)
+  looks_on : count_of (F.clouds old) P ≤ 2 → LooksOn F old mid new P Q
+  looks_on few = record { lists = record { only = listed; failed = risen; exact = stay }; few = few; more = more }
+
+  pub told_stop : (names : List (List ℕ)) (stop : ListStop) → count_of (F.clouds old) P ≤ 2 → AreSortedNames names → (F.tells → AreNamesOutside (F.clouds old) (F.held old) P names)
+      → ListRefuses F names P Q mid new stop → (F.tells → StopsFor F mid Q stop.fault)
       → Acted F (task_of s act.List bytes) old new (reply.Stopped (fault_of_fetch stop.fault) (Some stop.done))
-  told_stop names stop is stops_for =
+  told_stop names stop few sorted outside is stops_for =
       list_refused F s bytes old new read_by stop.fault stop.done
       (stopped_counts F old mid new P Q (slice_index_or names stop.done []) stop.done listed.clouds listed.held (λ only. looked_failed F old mid new P Q listed looked risen stay more only) stop.fault is.refuses)
+      (record { mid = mid; unlisted = P; failed = Q; looks = looks_on few; names = names; sorted = sorted; are_names = outside; stop = stop; refuses = is; is = refl; done = refl })
       (λ told. stops_before F old mid Q (failing_in F act.List old new) stop.fault listed.clouds listed.held failing_by (stops_for told))
 
-  pub told_all : (names : List (List ℕ)) (lens : List (Option ℕ)) (rows : List FileRow) → rows ≡ rows_of names lens → (F.counts_exactly → OnlyMore F P Q mid new) → StayFew (F.clouds mid) P Q
+  pub told_all : (names : List (List ℕ)) (lens : List (Option ℕ)) (rows : List FileRow) → rows ≡ rows_of names lens → AreListed F mid names (length names) P Q lens → (F.counts_exactly → OnlyMore F P Q mid new) → StayFew (F.clouds mid) P Q
       → count_of (F.clouds old) P ≤ 2 → All IsName names → AreSortedNames names → (F.tells → AreNamesOutside (F.clouds old) (F.held old) P names) → length lens ≡ length names
       → (F.tells → AllShow F mid names Q lens) → Acted F (task_of s act.List bytes) old new (reply.Listing rows)
-  told_all names lens rows are only stays_few few valid sorted outside long shows =
+  told_all names lens rows are seen only stays_few few valid sorted outside long shows =
       let still : StayFew (F.clouds old) P Q = subst (λ (n : ℕ). StayFew n P Q) listed.clouds stays_few in
-      list_told F s bytes old new read_by P Q names lens rows are (looked_failed F old mid new P Q listed looked risen stay more only) (still.few few)
+      list_told F s bytes old new read_by mid P Q names lens rows are (looks_on few) seen (looked_failed F old mid new P Q listed looked risen stay more only) (still.few few)
       (subst (λ (n : ℕ). HasAll n P Q) listed.clouds more.kept) valid sorted long outside
       (λ told. shows_before F old mid names lens Q (failing_in F act.List old new) listed.clouds listed.held failing_by (shows told))

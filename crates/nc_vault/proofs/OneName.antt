@@ -15,7 +15,7 @@ use Rattle.nc_state.specs.Holding.{HoldsIfAny}
 use Rattle.nc_state.specs.Right.{RightOn}
 use Rattle.nc_state.specs.Standing.{Entries, Stands}
 use Rattle.nc_state.specs.Tidy.{IsTidy}
-use Rattle.nc_state.specs.Vaults.{BeginsMaking, ChangesOnlyName, DoesMaking, Vault, version_in}
+use Rattle.nc_state.specs.Vaults.{BeginsMaking, ChangesOnlyName, DoesMaking, ForEachVault, Vault, version_in}
 use Rattle.nc_state.specs.Versions.{Version, meta_of}
 use Rattle.nc_state.proofs.Alone.{alone_then}
 use Rattle.nc_state.proofs.CommandLaws.{rests_after}
@@ -36,11 +36,12 @@ use Rattle.nc_vault.specs.declared.fault.Fault.TheVariants as fault
 use Rattle.nc_vault.specs.declared.reply.Reply.{Reply}
 use Rattle.nc_vault.specs.declared.reply.Reply.TheVariants as reply
 use Rattle.nc_vault.specs.Acting.{Acted, Changes, IfDone, IsReplyTo, IsTidied, LeavesTidy, StaysBefore}
-use Rattle.nc_vault.specs.Counting.{CostsBy, CountsSay, NamesCloud, NamesNone, bears_failures, failing_in, may_read_chunks, rose}
+use Rattle.nc_vault.specs.Counting.{CostsBy, CountsSay, NamesCloud, NamesNone, ReadsFor, bears_failures, failing_in, may_read_chunks, rose}
 use Rattle.nc_vault.specs.Faults.{fault_of_settle, fault_of_write}
 use Rattle.nc_vault.specs.Makings.{Brings, Makes}
 use Rattle.nc_vault.specs.Replies.{RepliesWith, StopsFor}
 use Rattle.nc_vault.specs.Saying.{SaysBy, WriteRefuses}
+use Rattle.nc_vault.specs.Seeing.{SeesFor, only_reads}
 use Rattle.nc_vault.specs.Vaults.{DoesName, StandsAtEnd, StandsDone, TellsDone, WorksOn, fills}
 use Rattle.nc_vault.specs.Writing.{IsSettled, IsUnsettled, IsWritten, Proceeds, Settles, Tidies, Writes}
 use Rattle.nc_vault.proofs.Members.{in_one}
@@ -57,8 +58,16 @@ pub record WritesOne (a : Act) (name : List ℕ) : Type 0 where
   pub changes : (F G : Contents) → ChangesOnlyName name F G → Changes a F G
   pub bears : bears_failures a ≡ false
   pub unread : (answer : Reply) → may_read_chunks a answer ≡ false
+  pub writes : only_reads a ≡ false
   pub only : (n : ℕ) (G : Contents) (names : List (List ℕ)) → WorksOn n G a names → names ≡ name ∷ []
   pub says : (n : ℕ) (task : Task) (F G : Contents) (f : Fault) → WriteRefuses n task.setting name F f → SaysBy n task F G a (reply.Stopped f None)
+
+-- it tells of nothing that it saw, and reads no chunk
+unseen : {A : Type 0} (F : FleetGhosts A) (a : Act) (old new : A) (answer : Reply) → only_reads a ≡ false → SeesFor (only_reads a) F old new a answer
+unseen F a old new answer writes = subst (λ (b : Bool). SeesFor b F old new a answer) (sym writes) tt
+
+unread_by : {A : Type 0} (F : FleetGhosts A) (a : Act) (old new : A) (answer : Reply) (n : ℕ) (G : Contents) → only_reads a ≡ false → ForEachVault n G (ReadsFor (only_reads a) F old new a answer)
+unread_by F a old new answer n G writes = record { each = λ S D stands. subst (λ (b : Bool). ReadsFor b F old new a answer (record { contents = G; entries = S; damaged = D })) (sym writes) tt }
 
 -- ---- states
 
@@ -209,6 +218,8 @@ module _ {A : Type 0} (F : FleetGhosts A) (task : Task) (name : List ℕ) (one :
     before = before;
     only = λ told. keeps_by (Changes task.act (F.held old)) (u.alone told) (λ G only. one.changes (F.held old) G only);
     says = λ told. one.says n task (F.held old) (F.held new) f (refuses told);
+    sees = unseen F task.act old new (reply.Stopped f None) one.writes;
+    reads = λ told. unread_by F task.act old new (reply.Stopped f None) (F.clouds old) (F.held old) one.writes;
     stands = λ told. record {
       each = λ S D stands. record {
         stops = one_stops F n task name (one.works n) (u.alone told) S D stands (u.begins told S D stands);
@@ -361,6 +372,8 @@ module _ {A : Type 0} (F : FleetGhosts A) (task : Task) (name : List ℕ) (one :
             before = before;
             only = λ told. keeps_by (Changes task.act (F.held old)) (until_tidied.alone told) (λ G only. one.changes (F.held old) G only);
             says = says;
+            sees = unseen F task.act old new answer one.writes;
+            reads = λ told. unread_by F task.act old new answer (F.clouds old) (F.held old) one.writes;
             stands = λ told. record {
               each = λ S D stands. record {
                 stops = one_stops F n task name (one.works n) (until_tidied.alone told) S D stands (until_tidied.begins told S D stands);

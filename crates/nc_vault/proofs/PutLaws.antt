@@ -58,6 +58,7 @@ module _ (s : Setting) (name v : List ℕ) where
     changes = λ F G only. only;
     bears = refl;
     unread = λ answer. refl;
+    writes = refl;
     only = λ n G names works. works;
     says = λ n task F G f refuses. refuses;
   }

@@ -1,5 +1,5 @@
 -- An act that only reads.
-use Rattle.std.proofs.Common.{◌≡◌, ◌≤◌, ◌<◌, ℕ, Option, None, Some, List, [], Contains, take, refl, sym, subst, arith}
+use Rattle.std.proofs.Common.{◌≡◌, ℕ, Option, [], refl, sym, arith}
 use Rattle.nc_cloud.specs.Contents.{Contents}
 use Rattle.nc_cloud.specs.Stopping.{Keeps, Stops}
 use Rattle.nc_cloud.specs.declared.fleet.Fleet.{Ghosts as FleetGhosts}
@@ -13,7 +13,7 @@ use Rattle.nc_vault.specs.declared.fault.Fault.{Fault}
 use Rattle.nc_vault.specs.declared.reply.Reply.{Reply}
 use Rattle.nc_vault.specs.declared.reply.Reply.TheVariants as reply
 use Rattle.nc_vault.specs.Acting.{Changes}
-use Rattle.nc_vault.specs.Vaults.{ActKeeps, Does, StandsAtEnd, StandsBegun, StandsDone, TellsDone, WorksOn}
+use Rattle.nc_vault.specs.Vaults.{ActKeeps, StandsAtEnd, StandsBegun, StandsDone, TellsDone, WorksOn}
 use Rattle.nc_vault.specs.Vaults.Begins.{not_yet}
 use Rattle.nc_vault.proofs.Members.{in_none}
 

@@ -1,9 +1,9 @@
 -- How recovery is answered, where it is stopped and where it is done.
-use Rattle.std.proofs.Common.{◌≡◌, ◌<◌, ◌≤◌, ◌+◌, ◌-◌, ◌^◌, ◌||◌, ℕ, min, nat_le, Bool, true, false, Option, None, Some, List, [], Contains, length, take, slice_get, inl, inr, refl, sym, ap, ◌∙◌, subst, arith}
+use Rattle.std.proofs.Common.{◌≡◌, ◌||◌, ℕ, Bool, true, false, Some, List, [], Contains, length, take, slice_get, inl, inr, refl, sym, ap, ◌∙◌, subst}
 use Rattle.nc_name.specs.Names.{IsName}
 use Rattle.nc_cloud.specs.Contents.{Contents}
 use Rattle.nc_cloud.specs.Deciding.{HasCause}
-use Rattle.nc_cloud.specs.Stopping.{GoesOn, Keeps, Stops}
+use Rattle.nc_cloud.specs.Stopping.{GoesOn, Keeps}
 use Rattle.nc_cloud.specs.declared.deciding.RoundFault.{RoundFault}
 use Rattle.nc_cloud.specs.declared.deciding.RoundFault.TheVariants as round
 use Rattle.nc_cloud.specs.declared.fleet.Fleet.{Ghosts as FleetGhosts}
@@ -11,7 +11,7 @@ use Rattle.nc_cloud.proofs.Counts.{rose_more}
 use Rattle.nc_state.specs.ChunkLaws.{SameAt}
 use Rattle.nc_state.specs.Clouds.{Clouds}
 use Rattle.nc_state.specs.Standing.{AreNames, Entries, Stands}
-use Rattle.nc_state.specs.Vaults.{ChangesOnlyName, IsVault, Vault}
+use Rattle.nc_state.specs.Vaults.{ChangesOnlyName, Vault}
 use Rattle.nc_state.proofs.MisplacedLaw.{none_misplaced}
 use Rattle.nc_state.proofs.TopLaws.{none_disputed}
 use Rattle.nc_names.specs.Listing.{IsOfCloud, OnlyListed}
@@ -28,11 +28,11 @@ use Rattle.nc_vault.specs.Acting.{Acted, Changes, StaysBefore}
 use Rattle.nc_vault.specs.Counting.{CountsSay, failing_in, rose}
 use Rattle.nc_vault.specs.Faults.{fault_of_round, fault_of_settle}
 use Rattle.nc_vault.specs.Parts.{BeginsPart, NamesKept}
-use Rattle.nc_vault.specs.Recovering.{RecoversName, StopsName}
+use Rattle.nc_vault.specs.Recovering.{StopsName}
 use Rattle.nc_vault.specs.Recovering.StopsName.{unsettled, untidied}
 use Rattle.nc_vault.specs.Replies.{StopsFor}
 use Rattle.nc_vault.specs.Saying.{WriteRefuses}
-use Rattle.nc_vault.specs.Vaults.{StandsBegun, StandsBegunAt, StandsFinished}
+use Rattle.nc_vault.specs.Vaults.{StandsBegunAt, StandsFinished}
 use Rattle.nc_vault.specs.Vaults.Begins.{not_yet}
 use Rattle.nc_vault.specs.Writing.{IsUnsettled, Proceeds}
 use Rattle.nc_vault.proofs.Members.{take_whole}
@@ -98,6 +98,8 @@ module _ {A : Type 0} (F : FleetGhosts A) (s : Setting) (bytes : List ℕ) where
       before = list_before f;
       only = λ told. any_change F listed.stops.time;
       says = λ told. list_says f;
+      sees = tt;
+      reads = λ told. record { each = λ S D stands. tt };
       stands = λ told. record {
         each = λ S D stands.
             let kept : NamesKept F (F.clouds old) task [] 0 old new (vault_of (F.held old) S D) = ((so_far_none F [] listed).kept told s bytes).each S D stands in
@@ -175,6 +177,8 @@ module _ {A : Type 0} (F : FleetGhosts A) (s : Setting) (bytes : List ℕ) where
         before = before;
         only = λ told. any_change F (proceeds_then so.proceeds proceeds).time;
         says = says;
+        sees = tt;
+        reads = λ told. record { each = λ S D stands. tt };
         stands = λ told. record {
           each = λ S D stands.
               let V : Vault = vault_of (F.held old) S D in
@@ -228,6 +232,8 @@ module _ {A : Type 0} (F : FleetGhosts A) (s : Setting) (bytes : List ℕ) where
       is = refl;
       each = λ name among. so.settled told name (subst (λ (ns : List (List ℕ)). Contains ns name) (sym (take_whole names)) among);
     };
+    sees = tt;
+    reads = λ told. record { each = λ S D stands. tt };
     stands = λ told. record {
       each = λ S D stands.
           let V : Vault = vault_of (F.held old) S D in

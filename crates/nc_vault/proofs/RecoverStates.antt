@@ -1,7 +1,6 @@
 -- How far recovery has come, between two names.
-use Rattle.std.proofs.Common.{◌≡◌, ◌<◌, ◌≤◌, ◌+◌, ◌-◌, ◌^◌, ℕ, min, Option, Some, List, Contains, length, take, slice_get, inl, inr, refl, sym, ap, ◌∙◌, subst, arith}
+use Rattle.std.proofs.Common.{◌≡◌, ◌<◌, ◌≤◌, ◌+◌, ℕ, Some, List, Contains, take, slice_get, inl, inr, refl, sym, ap, ◌∙◌, subst, arith}
 use Rattle.nc_name.specs.Counts.{Rose}
-use Rattle.nc_name.specs.Keys.{name_of}
 use Rattle.nc_name.specs.Names.{IsName}
 use Rattle.nc_cloud.specs.Contents.{Contents, Grows}
 use Rattle.nc_cloud.specs.Stopping.{Keeps}
@@ -10,7 +9,7 @@ use Rattle.nc_cloud.proofs.Counts.{rose_more}
 use Rattle.nc_cloud.proofs.Time.{stops_more}
 use Rattle.nc_state.specs.ChunkLaws.{SameAt}
 use Rattle.nc_state.specs.Holding.{IsSettledOn}
-use Rattle.nc_state.specs.Standing.{AreNames, Entries, Stands}
+use Rattle.nc_state.specs.Standing.{AreNames, Stands}
 use Rattle.nc_state.specs.Tidy.{IsTidy}
 use Rattle.nc_state.specs.Vaults.{ChangesOnlyName, ForEachVault, Vault}
 use Rattle.nc_state.proofs.Alone.{alone_then}

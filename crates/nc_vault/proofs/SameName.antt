@@ -1,6 +1,5 @@
 -- What clouds hold of a name whose objects are the same.
-use Rattle.std.proofs.Common.{◌≡◌, ◌≢◌, ◌<◌, ◌≤◌, ℕ, Option, None, Some, List, IfSome, refl, sym, ◌∙◌, arith}
-use Rattle.nc_name.specs.declared.key.Key.{Key}
+use Rattle.std.proofs.Common.{◌<◌, ℕ, Option, None, Some, List, IfSome, refl, sym, ◌∙◌, arith}
 use Rattle.nc_name.specs.declared.key.Key.TheVariants as key
 use Rattle.nc_meta.specs.declared.meta.Meta.{Meta}
 use Rattle.nc_cloud.specs.Contents.{Contents}

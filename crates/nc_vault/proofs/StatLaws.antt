@@ -1,30 +1,21 @@
 -- What a finding says of a stat.
-use Rattle.std.proofs.Common.{◌≡◌, ◌≢◌, ◌≤◌, ◌<◌, ◌⊎◌, ◌||◌, ◌==◌, ℕ, Bool, true, false, not, Option, None, Some, List, [], Contains, inl, inr, is_some, refl, sym, ap, ◌∙◌, subst, arith, Result, Ok, Err}
-use Rattle.std.proofs.lemmas.Bool.Decides.{eqb_tells}
-use Rattle.nc_cloud.specs.Contents.{Contents}
+use Rattle.std.proofs.Common.{◌≡◌, ◌≤◌, ℕ, false, None, List, Contains, inl, inr, is_some, refl, ap, subst, arith, Ok, Err}
 use Rattle.nc_cloud.specs.Deciding.{OnlyLooked}
 use Rattle.nc_cloud.specs.Stopping.{Stops}
 use Rattle.nc_cloud.specs.declared.fleet.Fleet.{Ghosts as FleetGhosts}
 use Rattle.nc_meta.specs.declared.meta.Live.{Live}
-use Rattle.nc_state.specs.Clouds.{Clouds, count_of}
-use Rattle.nc_state.specs.Vaults.{ForEachVault, Vault}
-use Rattle.nc_settle.specs.Decisions.{HasFailed}
-use Rattle.nc_settle.specs.Looking.{OnlyFailuresRose}
-use Rattle.nc_settle.specs.Views.{Places, place_at, width_of}
-use Rattle.nc_settle.proofs.Failures.{failed_at, failing_has, failing_is}
-use Rattle.nc_download.proofs.ViewLaws.{fewer}
-use Rattle.nc_settle.specs.Failing.{FewFail, TooManyFail, fails, is_failed_place}
-use Rattle.nc_download.specs.Finding.{FindShows, Finds, HasRisen, SeenNow}
+use Rattle.nc_state.specs.Clouds.{Clouds}
+use Rattle.nc_state.specs.Vaults.{Vault}
+use Rattle.nc_download.specs.Finding.{FindShows, Finds, HasRisen}
 use Rattle.nc_download.specs.FindingOnVaults.{IsShownFile, IsShownNone, LookShows}
-use Rattle.nc_download.specs.Seeing.{Refuses, Shows}
-use Rattle.nc_download.specs.declared.fetching.FetchFault.{FetchFault}
-use Rattle.nc_download.specs.declared.fetching.FetchFault.TheVariants as fetch
+use Rattle.nc_download.specs.declared.fault.FetchFault.{FetchFault}
+use Rattle.nc_download.specs.declared.fault.FetchFault.TheVariants as fetch
 use Rattle.nc_words.specs.declared.act.Act.TheVariants as act
 use Rattle.nc_words.specs.declared.setting.Setting.{Setting}
 use Rattle.nc_words.specs.Acts.{Task, task_of}
 use Rattle.nc_vault.specs.declared.reply.Reply.TheVariants as reply
-use Rattle.nc_vault.specs.Acting.{Acted, StaysBefore}
-use Rattle.nc_vault.specs.Counting.{CostsBy, CountsSay, IsLeastOfMany, failed_in, failing_in, may_read_chunks, moved, rose}
+use Rattle.nc_vault.specs.Acting.{Acted}
+use Rattle.nc_vault.specs.Counting.{CostsBy, CountsSay, failing_in, may_read_chunks}
 use Rattle.nc_vault.specs.Faults.{fault_of_fetch}
 use Rattle.nc_vault.specs.Replies.{RepliesTo}
 use Rattle.nc_vault.specs.Showing.{ReadsAbout, ReadsNone}
@@ -33,54 +24,7 @@ use Rattle.nc_vault.proofs.GetLaws.{get_before}
 use Rattle.nc_vault.proofs.Members.{in_none}
 use Rattle.nc_vault.proofs.OneName.{rose_is}
 use Rattle.nc_vault.proofs.ReadLaws.{OnlyReads, reads_done, reads_only, reads_stopped}
-
--- ---- counts
-
-moved_not : (before now : ℕ) → now ≡ before → moved before now ≡ false
-moved_not before now same =
-    elim (eqb_tells now before) [
-      | inl is ↦ ap not is.0
-      | inr differ ↦ absurd (differ.1 same)
-    ]
-
--- a cloud whose count changed failed in the view
-has_failed : (v : Places) (before now : ℕ → ℕ) (c : ℕ) → OnlyFailuresRose before now v → (b : Bool) → fails v c ≡ b → (moved (before c) (now c) || false) ≡ true → fails v c ≡ true
-has_failed v before now c only true is did = is
-has_failed v before now c only false is did =
-    let same : now c ≡ before c = only.each c (λ slot low failed. let wrong : true ≡ false = sym (failed_at v c slot low failed) ∙ is in absurd cc) in
-    let not_moved : moved (before c) (now c) ≡ false = moved_not (before c) (now c) same in
-    absurd (let wrong : true ≡ false = sym did ∙ ap (λ (m : Bool). m || false) not_moved in cc)
-
-module _ {A : Type 0} (F : FleetGhosts A) (name : List ℕ) (old new : A) {shows : Places → Type 0} (seen : SeenNow F name old new shows) where
-  few_failed : FewFail seen.view → F.counts_exactly → count_of (F.clouds old) (failed_in F (act.Stat name) old new) ≤ 2
-  few_failed few exact =
-      let counted : count_of (F.clouds old) (fails seen.view) ≤ 2 = subst (λ (k : ℕ). count_of k (fails seen.view) ≤ 2) seen.width.first few in
-      let less : count_of (F.clouds old) (failed_in F (act.Stat name) old new) ≤ count_of (F.clouds old) (fails seen.view) =
-      fewer (F.clouds old) (failed_in F (act.Stat name) old new) (fails seen.view)
-      (λ c within did. has_failed seen.view (F.faults old) (F.faults new) c (seen.only exact) (fails seen.view c) refl did) in
-      omega (arith, counted, less)
-
-  rose_where : (c : ℕ) → c < F.clouds old → fails seen.view c ≡ true → failing_in F (act.Stat name) old new c ≡ true
-  rose_where c within did =
-      let failed = failing_has seen.view c did in
-      rose_is (F.faults old c) (F.faults new c) false (seen.rose.each c failed.slot within failed.in_pair failed.failed)
-
-  many_failed : (c : ℕ) → TooManyFail seen.view c → IsLeastOfMany F (act.Stat name) old new c
-  many_failed c too_many =
-      let within : c < F.clouds old = let low = too_many.least.in_width in omega (arith, low, seen.width.first) in
-      let many : 3 ≤ count_of (F.clouds old) (fails seen.view) = subst (λ (k : ℕ). 3 ≤ count_of k (fails seen.view)) seen.width.first too_many.many in
-      let more : count_of (F.clouds old) (fails seen.view) ≤ count_of (F.clouds old) (failing_in F (act.Stat name) old new) =
-      fewer (F.clouds old) (fails seen.view) (failing_in F (act.Stat name) old new) rose_where in
-      record {
-        in_width = within;
-        failed = rose_where c within (failing_is seen.view c too_many.least.failed);
-        many = omega (arith, many, more);
-        least = λ exact d low. none_failed (seen.only exact) d (too_many.least.before d low);
-      }
-    where
-      none_failed : OnlyFailuresRose (F.faults old) (F.faults new) seen.view → (d : ℕ) → (HasFailed seen.view d → ⊥) → failed_in F (act.Stat name) old new d ≡ false
-      none_failed only d not =
-          ap (λ (m : Bool). m || false) (moved_not (F.faults old d) (F.faults new d) (only.each d (λ slot low failed. not (record { slot = slot; in_pair = low; failed = failed }))))
+use Rattle.nc_vault.proofs.SeenLaws.{few_failed, many_failed}
 
 -- ---- all of it
 
@@ -116,11 +60,13 @@ module _ {A : Type 0} (F : FleetGhosts A) (s : Setting) (name bytes : List ℕ) 
     grows = record { faults = looked.grows; slips = slips_grow };
     time = stops.time;
     kind = tt;
-    counts = few_failed F name old new finds finds.shown.few;
+    counts = few_failed F (act.Stat name) refl old new name finds finds.shown.few;
     costs = gets;
     before = tt;
     only = λ told. reads_only F task reads looked.held stops;
     says = λ told. tt;
+    sees = record { meta = m; finds = finds; generation_is = refl; len_is = refl; witnessed_is = refl };
+    reads = λ told. record { each = λ S D stands. tt };
     stands = reads_done F task reads looked.held stops (reply.About m.generation m.len (is_some m.witnesses)) (λ V done. done);
     replies = λ told. record {
       each = λ S D stands.
@@ -132,14 +78,14 @@ module _ {A : Type 0} (F : FleetGhosts A) (s : Setting) (name bytes : List ℕ) 
 
   refused_counts : (f : FetchFault) → Finds F name old new (Err f) → CountsSay F (act.Stat name) old new (reply.Stopped (fault_of_fetch f) None)
   refused_counts fetch.NoFile finds =
-      few_failed F name old new finds (elim finds.shown [
+      few_failed F (act.Stat name) refl old new name finds (elim finds.shown [
         | inl nothing ↦ nothing.0.few
         | inr gone ↦ gone.few
       ])
-  refused_counts (fetch.Cloud c) finds = many_failed F name old new finds c finds.shown
+  refused_counts (fetch.Cloud c) finds = many_failed F (act.Stat name) refl old new name finds c finds.shown
   refused_counts (fetch.Short bads) finds = absurd finds.shown
-  refused_counts (fetch.Conflict g a b) finds = few_failed F name old new finds finds.shown.0
-  refused_counts (fetch.Misplaced c a b) finds = few_failed F name old new finds finds.shown.0.few
+  refused_counts (fetch.Conflict g a b) finds = few_failed F (act.Stat name) refl old new name finds finds.shown.0
+  refused_counts (fetch.Misplaced c a b) finds = few_failed F (act.Stat name) refl old new name finds finds.shown.0.few
   refused_counts (fetch.Unsound a b) finds = absurd finds.shown
   refused_counts fetch.Memory finds = tt
 
@@ -172,6 +118,8 @@ module _ {A : Type 0} (F : FleetGhosts A) (s : Setting) (name bytes : List ℕ) 
     before = get_before (F.held old) (F.held new) f looked.held;
     only = λ told. reads_only F task reads looked.held stops;
     says = λ told. tt;
+    sees = record { fault = f; finds = finds; is = refl };
+    reads = λ told. record { each = λ S D stands. tt };
     stands = λ told. reads_stopped F task reads looked.held stops None refl (fault_of_fetch f) told;
     replies = λ told. record { each = λ S D stands. refused_stops (record { contents = F.held old; entries = S; damaged = D }) f (((shows told).each failing risen).each S D stands) };
     tidy = λ told sure not. tt;

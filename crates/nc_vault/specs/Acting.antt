@@ -15,9 +15,10 @@ use Rattle.nc_vault.specs.declared.fault.Fault.{Fault}
 use Rattle.nc_vault.specs.declared.fault.Fault.TheVariants as fault
 use Rattle.nc_vault.specs.declared.reply.Reply.{Reply}
 use Rattle.nc_vault.specs.declared.reply.Reply.TheVariants as reply
-use Rattle.nc_vault.specs.Counting.{CostsBy, CountsGrow, CountsSay, may_read_chunks}
+use Rattle.nc_vault.specs.Counting.{CostsBy, CountsGrow, CountsSay, ReadsFor, may_read_chunks}
 use Rattle.nc_vault.specs.Replies.{RepliesTo}
 use Rattle.nc_vault.specs.Saying.{Says}
+use Rattle.nc_vault.specs.Seeing.{SeesFor, only_reads}
 use Rattle.nc_vault.specs.Vaults.{ActKeeps, WorksOn}
 
 -- an act on all names that was stopped tells with how many it was done; any other tells nothing
@@ -83,8 +84,10 @@ pub record Acted {A : Type 0} (F : FleetGhosts A) (task : Task) (old new : A) (a
   pub before : StaysBefore (F.held old) (F.held new) answer
   pub only : F.tells → Keeps F old new (Changes task.act (F.held old))
   pub says : F.tells → Says F task old new answer
+  pub sees : SeesFor (only_reads task.act) F old new task.act answer
   pub stands : F.tells → ForEachVault (F.clouds old) (F.held old) (ActKeeps F (F.clouds old) task old new answer)
   pub replies : F.tells → ForEachVault (F.clouds old) (F.held old) (RepliesTo F task old new answer)
+  pub reads : F.tells → ForEachVault (F.clouds old) (F.held old) (ReadsFor (only_reads task.act) F old new task.act answer)
   pub tidy : F.tells → F.sure_deletes → NoneSlipped F old new → IfDone answer (LeavesTidy (F.clouds old) task.act (F.held old) (F.held new))
 
 -- ---- answers

@@ -4,6 +4,8 @@ use Rattle.nc_name.specs.Counts.{Rose}
 use Rattle.nc_cloud.specs.Contents.{Grows}
 use Rattle.nc_cloud.specs.declared.fleet.Fleet.{Ghosts as FleetGhosts}
 use Rattle.nc_state.specs.Clouds.{Clouds, count_of}
+use Rattle.nc_state.specs.Vaults.{Vault}
+use Rattle.nc_fetch.specs.Costs.{ReadsWhole}
 use Rattle.nc_words.specs.declared.act.Act.{Act}
 use Rattle.nc_words.specs.declared.act.Act.TheVariants as act
 use Rattle.nc_vault.specs.declared.fault.Fault.TheVariants as fault
@@ -26,6 +28,7 @@ lists other = false
 
 -- the acts that go on while one or two clouds fail
 abbrev pub bears_failures : Act → Bool
+bears_failures (act.Get name) = true
 bears_failures (act.Stat name) = true
 bears_failures act.List = true
 bears_failures other = false
@@ -77,9 +80,11 @@ abbrev pub NamesNone : {A : Type 0} → Bool → FleetGhosts A → Act → A →
 NamesNone true F a old new = F.counts_exactly → count_of (F.clouds old) (failed_in F a old new) ≤ 2
 NamesNone false F a old new = F.counts_exactly → StayCounts (F.clouds old) (F.faults old) (F.faults new)
 
--- A cloud is named only where its count rose, and it is the least; and where one failed, one is named.
+-- A cloud is named only where its count rose, and it is the least; and where one failed, or three, one is named. Where too few clouds
+-- are good, those that failed are listed.
 abbrev pub CountsSay : {A : Type 0} → FleetGhosts A → Act → A → A → Reply → Type 0
 CountsSay F a old new (reply.Stopped (fault.Cloud c) after) = NamesCloud (bears_failures a) F a old new c after
+CountsSay F a old new (reply.Stopped (fault.Short bads) after) = Unit {0}
 CountsSay F a old new (reply.Stopped fault.Memory after) = Unit {0}
 CountsSay F a old new other = NamesNone (bears_failures a) F a old new
 
@@ -91,7 +96,6 @@ pub record CountsGrow {A : Type 0} (F : FleetGhosts A) (old new : A) : Type 0 wh
 -- The acts but get read no chunk; nor does a get that the metadata refuses.
 abbrev pub may_read_chunks : Act → Reply → Bool
 may_read_chunks (act.Get name) (reply.Bytes v) = true
-may_read_chunks (act.Get name) (reply.Stopped (fault.Cloud c) after) = true
 may_read_chunks (act.Get name) (reply.Stopped (fault.Short bads) after) = true
 may_read_chunks (act.Get name) (reply.Stopped fault.Memory after) = true
 may_read_chunks a other = false
@@ -99,3 +103,15 @@ may_read_chunks a other = false
 abbrev pub CostsBy : Bool → (ℕ → ℕ) → (ℕ → ℕ) → Type 0
 CostsBy true before now = Unit {0}
 CostsBy false before now = (c : ℕ) → now c ≡ before c
+
+-- What an act reads of chunks on clouds that stand: of a file that it gives, both chunks of the first n - 2 clouds and none of the
+-- others, where none is damaged and none failed.
+abbrev pub ReadsBy : {A : Type 0} → FleetGhosts A → A → A → Act → Reply → Vault → Type 0
+ReadsBy F old new (act.Get name) (reply.Bytes v) V =
+    ReadsWhole (F.clouds old) (failing_in F (act.Get name) old new) (F.chunk_gets old) (F.chunk_gets new) V
+ReadsBy F old new a answer V = Unit {0}
+
+-- the same of an act that only reads; any other reads no chunk
+abbrev pub ReadsFor : {A : Type 0} → Bool → FleetGhosts A → A → A → Act → Reply → Vault → Type 0
+ReadsFor true F old new a answer V = ReadsBy F old new a answer V
+ReadsFor false F old new a answer V = Unit {0}

@@ -5,8 +5,8 @@ use Rattle.nc_settle.specs.declared.settled.SettleFault.{SettleFault}
 use Rattle.nc_settle.specs.declared.settled.SettleFault.TheVariants as settle
 use Rattle.nc_write.specs.declared.fault.WriteFault.{WriteFault}
 use Rattle.nc_write.specs.declared.fault.WriteFault.TheVariants as write
-use Rattle.nc_download.specs.declared.fetching.FetchFault.{FetchFault}
-use Rattle.nc_download.specs.declared.fetching.FetchFault.TheVariants as fetch
+use Rattle.nc_download.specs.declared.fault.FetchFault.{FetchFault}
+use Rattle.nc_download.specs.declared.fault.FetchFault.TheVariants as fetch
 use Rattle.nc_vault.specs.declared.fault.Fault.{Fault}
 use Rattle.nc_vault.specs.declared.fault.Fault.TheVariants.{NoFile, Cloud, Short, Conflict, Misplaced, Unsound, Worn, Memory}
 

@@ -8,6 +8,7 @@ pub mod Parts
 pub mod Recovering
 pub mod Replies
 pub mod Saying
+pub mod Seeing
 pub mod Showing
 pub mod Vaults
 pub mod Writing

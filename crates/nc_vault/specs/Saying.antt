@@ -1,5 +1,5 @@
 -- How an act is answered on any contents, by what the clouds held.
-use Rattle.std.specs.Prelude.{ℕ, ◌≡◌, ◌<◌, ◌+◌, ◌-◌, ◌^◌, Option, List, length, Contains, IfSome, Ok, Err}
+use Rattle.std.specs.Prelude.{ℕ, ◌≡◌, ◌<◌, ◌+◌, ◌-◌, ◌^◌, Option, List, length, Contains, IfSome}
 use Rattle.nc_meta.specs.declared.meta.Meta.{Meta}
 use Rattle.nc_meta.specs.Metas.{generation_of}
 use Rattle.nc_nextloss.specs.GoodCodes.{GoodParts}
@@ -11,8 +11,6 @@ use Rattle.nc_state.specs.Standing.{AreNames}
 use Rattle.nc_state.specs.Versions.Version.{Removed, Stored}
 use Rattle.nc_settle.specs.Elsewhere.{LeastMisplaced, NothingMisplaced}
 use Rattle.nc_write.specs.Putting.{IsStored, put_meta}
-use Rattle.nc_download.specs.Fetching.{Fetches}
-use Rattle.nc_download.specs.declared.fetching.FetchFault.TheVariants as fetch
 use Rattle.nc_words.specs.declared.act.Act.{Act}
 use Rattle.nc_words.specs.declared.act.Act.TheVariants as act
 use Rattle.nc_words.specs.declared.setting.Setting.{Setting}
@@ -94,19 +92,6 @@ WriteRefuses n s name F (fault.Cloud c) = Unit {0}
 WriteRefuses n s name F fault.Memory = Unit {0}
 WriteRefuses n s name F other = ⊥
 
--- ---- acts that read
-
--- why a file isn't given, by what the clouds hold
-abbrev pub GetRefuses : ℕ → List ℕ → Contents → Fault → Type 0
-GetRefuses n name F fault.NoFile = Fetches n name F (Err fetch.NoFile)
-GetRefuses n name F (fault.Short list) = Fetches n name F (Err (fetch.Short list))
-GetRefuses n name F (fault.Conflict g a b) = Fetches n name F (Err (fetch.Conflict g a b))
-GetRefuses n name F (fault.Misplaced c a b) = Fetches n name F (Err (fetch.Misplaced c a b))
-GetRefuses n name F (fault.Unsound a b) = Fetches n name F (Err (fetch.Unsound a b))
-GetRefuses n name F (fault.Cloud c) = Unit {0}
-GetRefuses n name F fault.Memory = Unit {0}
-GetRefuses n name F other = ⊥
-
 -- ---- all of them
 
 -- the reply of an act that is done, from F to G
@@ -117,8 +102,6 @@ SaysBy n task F G (act.Remove name) (reply.Removed generation) = Removes n name 
 SaysBy n task F G (act.Remove name) (reply.Stopped cause after) = WriteRefuses n task.setting name F cause
 SaysBy n task F G act.Recover (reply.Settled names) = SettlesAll n F G names
 SaysBy n task F G act.Recover (reply.Stopped cause after) = (name : List ℕ) × WriteRefuses n task.setting name F cause
-SaysBy n task F G (act.Get name) (reply.Bytes v) = Fetches n name F (Ok v)
-SaysBy n task F G (act.Get name) (reply.Stopped cause after) = GetRefuses n name F cause
 SaysBy n task F G a answer = Unit {0}
 
 abbrev pub Says : {A : Type 0} → FleetGhosts A → Task → A → A → Reply → Type 0

@@ -8,13 +8,13 @@ ghost use Rattle.nc_vault.specs.Acting.{Acted};
 use crate::fault::Fault;
 use crate::reply::Reply;
 use nc_cloud::Fleet;
-use nc_download::fetch;
+use nc_fetch::fetch;
 use nc_name::Name;
 use nc_words::Setting;
 use std::alloc::Global;
 use std::thread::Threads;
 
-/// Gives the file of this name. It changes nothing.
+/// Gives the file of this name. It changes nothing, and goes on while at most two clouds are damaged or fail.
 pub(crate) fn get<R: Threads + Sync, F: Fleet>(
     rt: &R,
     alloc: Global,

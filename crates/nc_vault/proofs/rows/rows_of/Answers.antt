@@ -1,4 +1,4 @@
-use Rattle.std.proofs.Common.{◌≡◌, ◌<◌, ℕ, Option, None, length, slice_index_or, sym, arith}
+use Rattle.std.proofs.Common.{◌<◌, ℕ, Option, None, length, slice_index_or, sym, arith}
 use Rattle.std.proofs.lemmas.List.{get_or_default}
 use Rattle.nc_vault.proofs.RowLaws.{rows_all, rows_more, rows_none}
 use Rattle.nc_vault.proofs.rows.rows_of.Goals as goal

@@ -1,0 +1,11 @@
+pub mod SomeLists
+pub mod Growing
+pub mod FoundLaws
+pub mod RoundLaws
+pub mod TriedLaws
+pub mod TryLaws
+pub mod BatchLaws
+pub mod PieceLaws
+pub mod PartLaws
+pub mod CostLaws
+pub mod FetchedLaws

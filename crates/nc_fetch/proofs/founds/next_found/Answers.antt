@@ -1,0 +1,34 @@
+use Rattle.std.proofs.Common.{◌≡◌, ◌∙◌, true, sym, arith}
+use Rattle.nc_settle.specs.MetaWrites.{named}
+use Rattle.nc_fetch.specs.declared.founds.Found.{Found}
+use Rattle.nc_fetch.proofs.FoundLaws.{always_ok, found_taken, found_unasked, ok_weaker}
+use Rattle.nc_fetch.proofs.RoundLaws.{passed_over, some_entry, taken}
+use Rattle.nc_fetch.proofs.founds.next_found.Goals as goal
+
+pub remove-ask-requires : goal.remove-ask-requires
+remove-ask-requires c =
+    let within : named c.args.on.now c.args.cloud ≡ true = sym c.is_named.ensures ∙ c.if-is_named.true in
+    omega (arith, c.args.asks.now.ok, some_entry c.args.width c.args.name.now c.args.live.now c.args.row (named c.args.on.now) c.args.cloud c.args.asks.now.items c.requires.cloud within c.requires.asks)
+
+pub returns-then-is_named-clause-left : goal.returns-then-is_named-clause-left
+returns-then-is_named-clause-left c all left =
+    let within : named c.args.on.now c.args.cloud ≡ true = sym c.is_named.ensures ∙ c.if-is_named.true in
+    always_ok c.judge_answer.result
+    (taken c.args.width c.args.name.now c.args.live.now c.args.row (named c.args.on.now) c.args.cloud all c.args.asks.now.items c.remove-ask.new.self.items c.remove-ask.result c.requires.cloud within left
+    c.remove-ask.ensures.value c.remove-ask.ensures.items).2
+
+pub returns-then-is_named-clause-found : goal.returns-then-is_named-clause-found
+returns-then-is_named-clause-found c all left =
+    let within : named c.args.on.now c.args.cloud ≡ true = sym c.is_named.ensures ∙ c.if-is_named.true in
+    let front =
+    taken c.args.width c.args.name.now c.args.live.now c.args.row (named c.args.on.now) c.args.cloud all c.args.asks.now.items c.remove-ask.new.self.items c.remove-ask.result c.requires.cloud within left
+    c.remove-ask.ensures.value c.remove-ask.ensures.items in
+    ok_weaker _ _ c.judge_answer.result
+    (λ (found : Found) from. found_taken c.args.width c.args.name.now c.args.live.now c.args.row (named c.args.on.now) c.args.cloud all c.remove-ask.result c.wanted.result found within front.0 front.1 c.wanted.ensures.value from)
+    c.judge_answer.ensures
+
+pub returns-clause-left : goal.returns-clause-left
+returns-clause-left c all left = passed_over _ _ _ _ (named c.args.on.now) _ all _ c.requires.cloud (sym c.is_named.ensures ∙ c.if-is_named.false) left
+
+pub returns-clause-found : goal.returns-clause-found
+returns-clause-found c all left = found_unasked _ _ c.args.live.now _ (named c.args.on.now) _ all (sym c.is_named.ensures ∙ c.if-is_named.false)

@@ -1,0 +1,9 @@
+pub mod Founds
+pub mod Asking
+pub mod Whys
+pub mod Trying
+pub mod Parts
+pub mod Fetching
+pub mod PartsOnVaults
+pub mod FetchingOnVaults
+pub mod Costs
