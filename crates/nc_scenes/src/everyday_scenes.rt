@@ -60,6 +60,14 @@ fn everyday_scenes(rt: HostRuntime) -> Result<(), Fail> {
         holds 1 m-61-1 c-61-0-0 c-61-0-1
         holds 3 m-61-1 c-61-0-0 c-61-0-1
 
+        # where it is lost after it was settled, the new file stays
+        clouds 4
+        put a < "old" -> 0 Ok = generation:1
+        stopped in round 4 leaving new old old old: put a < "new!"
+        recover -> 0 Ok = "settled·1¶"
+        lose 0
+        get a -> 0 Ok = "new!"
+
         # files that were never stored, removed, and stored, side by side; names of one byte, of 100, and with spaces
         clouds 4
         raw 3 m-62-0 "junk"

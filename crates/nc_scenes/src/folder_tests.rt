@@ -114,17 +114,21 @@ fn a_file_stands_in_folders(rt: HostRuntime) -> Result<(), Fail> {
         stat a -> 0 Ok = "generation·5·length·4·witnesses·yes¶"
         remove scratch_file/2/c-61-0-1
         make scratch_file/2/c-61-0-1
-        get a -> 4 Vault(Cloud(2))
+        get a -> 0 Ok = mixed:4
         recover -> 0 Ok = "settled·1¶"
         raze scratch_file/3
-        get b -> 4 Vault(Cloud(3))
+        get a -> 0 Ok = mixed:4
+        get b -> 3 Vault(NoFile)
         put b -> 4 Vault(Cloud(3))
         raze scratch_file/1
-        get b -> 4 Vault(Cloud(1))
+        get a -> 5 Short: 1 failed, 2 failed, 3 failed
+        get b -> 3 Vault(NoFile)
         put b -> 4 Vault(Cloud(1))
         write scratch_file/1
-        get b -> 4 Vault(Cloud(1))
-        put b -> 4 Vault(Cloud(1))"#;
+        get b -> 3 Vault(NoFile)
+        put b -> 4 Vault(Cloud(1))
+        raze scratch_file/0
+        get b -> 4 Vault(Cloud(0))"#;
     for line in scene.lines() {
         let line = line.trim();
         if let Some((words, end)) = line.split_once(" -> ") {

@@ -125,21 +125,72 @@ fn get_scenes(rt: HostRuntime) -> Result<(), Fail> {
         seal 3 c-61-0-0 040c
         get a -> 5 Short: 0 row 0 Missing, 1 row 1 Broken, 2 row 0 Broken, 3 row 0 Marked
 
-        # a failing cloud ends the get: the least of the first step in which one fails is named
+        # a get bears two failing clouds. Entries 1 to 8 look for metadata; then each cloud that is wanted is asked for row 0, and where
+        # that was good for row 1
         clouds 4
         put a < "abcdefgh" -> 0 Ok = generation:1
-        # the rounds that look, and those of row 0 and of row 1
-        failing 1: get a -> 4 Vault(Cloud(0)) leaving 12 12 12 12
-        failing 4: get a -> 4 Vault(Cloud(3)) leaving 12 12 12 12
-        failing 5: get a -> 4 Vault(Cloud(0)) leaving 12 12 12 12
-        failing 8: get a -> 4 Vault(Cloud(3)) leaving 12 12 12 12
-        failing 9: get a -> 4 Vault(Cloud(0)) leaving 12 12 12 12
-        failing 11: get a -> 4 Vault(Cloud(2)) leaving 12 12 12 12
-        failing 13: get a -> 4 Vault(Cloud(0)) leaving 12 12 12 12
-        failing 16: get a -> 4 Vault(Cloud(3)) leaving 12 12 12 12
-        failing 4 6: get a -> 4 Vault(Cloud(1)) leaving 12 12 12 12
-        failing 12 10: get a -> 4 Vault(Cloud(1)) leaving 12 12 12 12
-        failing 12 13: get a -> 4 Vault(Cloud(3)) leaving 12 12 12 12
+        get a -> 0 Ok = "abcdefgh"
+        gets of chunks 2 2 0 0
+        failing 1: get a -> 0 Ok = "abcdefgh" leaving 12 12 12 12
+        failing 8: get a -> 0 Ok = "abcdefgh" leaving 12 12 12 12
+        failing 4 6: get a -> 0 Ok = "abcdefgh" leaving 12 12 12 12
+        failing 2 3 6 7: get a -> 0 Ok = "abcdefgh" leaving 12 12 12 12
+        failing 9: get a -> 0 Ok = "abcdefgh" leaving 12 12 12 12
+        failing 11: get a -> 0 Ok = "abcdefgh" leaving 12 12 12 12
+        failing 9 10: get a -> 0 Ok = "abcdefgh" leaving 12 12 12 12
+        failing 1 10: get a -> 0 Ok = "abcdefgh" leaving 12 12 12 12
+        failing 11 12: get a -> 0 Ok = "abcdefgh" leaving 12 12 12 12
+        entry 9 fails leaving old
+        get a -> 0 Ok = "abcdefgh"
+        gets of chunks 0 2 2 0
+        entry 11 fails leaving old
+        get a -> 0 Ok = "abcdefgh"
+        gets of chunks 1 2 2 0
+
+        # three that fail in the look end it, and the least is named; that fail later, they are listed
+        clouds 4
+        put a < "abcdefgh" -> 0 Ok = generation:1
+        failing 1 2 3: get a -> 4 Vault(Cloud(0)) leaving 12 12 12 12
+        failing 2 3 8: get a -> 4 Vault(Cloud(1)) leaving 12 12 12 12
+        failing 1 2 3 5 6 7: get a -> 4 Vault(Cloud(0)) leaving 12 12 12 12
+        failing 1 2 9: get a -> 5 Short: 0 failed, 1 failed, 2 failed leaving 12 12 12 12
+        failing 9 10 12: get a -> 5 Short: 0 failed, 1 failed, 3 failed leaving 12 12 12 12
+        failing 8 11 12 14: get a -> 5 Short: 0 failed, 1 failed, 2 failed, 3 failed leaving 12 12 12 12
+        lose 1
+        failing 1: get a -> 0 Ok = "abcdefgh" leaving 9 9 9 9
+        failing 1 9: get a -> 0 Ok = "abcdefgh" leaving 9 9 9 9
+        failing 1 12: get a -> 5 Short: 0 failed, 1 row 0 Missing, 3 failed leaving 9 9 9 9
+
+        # clouds 0 and 1 are emptied, then cloud 2 loses a chunk, and at last all are empty
+        clouds 4
+        put a < "abcdefgh" -> 0 Ok = generation:1
+        lose 0
+        lose 1
+        get a -> 0 Ok = "abcdefgh"
+        gets of chunks 0 0 2 2
+        lose 2 c-61-0-0
+        get a -> 5 Short: 0 row 0 Missing, 1 row 0 Missing, 2 row 0 Missing
+        gets of chunks 0 0 0 2
+        lose 2
+        lose 3
+        get a -> 3 Vault(NoFile)
+
+        # of 7 and of 10 clouds no more are asked than are wanted
+        clouds 7
+        put a < mixed:11 -> 0 Ok = generation:1
+        get a -> 0 Ok = mixed:11
+        gets of chunks 2 2 2 2 2 0 0
+        lose 0
+        lose 5 c-61-0-1
+        get a -> 0 Ok = mixed:11
+        gets of chunks 0 2 2 2 2 1 2
+        clouds 10
+        put a < mixed:17 -> 0 Ok = generation:1
+        get a -> 0 Ok = mixed:17
+        gets of chunks 2 2 2 2 2 2 2 2 0 0
+        lose 3
+        get a -> 0 Ok = mixed:17
+        gets of chunks 2 2 2 0 2 2 2 2 2 0
         "#,
     )
 }
