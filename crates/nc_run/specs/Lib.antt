@@ -6,3 +6,4 @@ pub mod Sending
 pub mod Standing
 pub mod Texts
 pub mod Turns
+pub mod Watching

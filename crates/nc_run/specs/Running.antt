@@ -1,5 +1,5 @@
 -- What a run does.
-use Rattle.std.specs.Prelude.{ℕ, ◌≡◌, ◌≤◌, ◌⊎◌, Bool, true, false, List, [], Ok, Err}
+use Rattle.std.specs.Prelude.{ℕ, ◌≡◌, ◌≤◌, ◌⊎◌, ◌↔◌, Bool, true, false, List, [], Ok, Err}
 use Rattle.std.specs.declared.result.Result.{Result}
 use Rattle.nc_stream.specs.declared.input.InputFault.{InputFault}
 use Rattle.nc_stream.specs.declared.sink.Sink.{Ghosts as SinkGhosts}
@@ -11,11 +11,12 @@ use Rattle.nc_words.specs.declared.act.Act.TheVariants as act
 use Rattle.nc_words.specs.declared.act.Command.{Command}
 use Rattle.nc_words.specs.declared.act.Command.TheVariants.{Act}
 use Rattle.nc_words.specs.declared.act.Request.{Request}
-use Rattle.nc_words.specs.Words.{Asks}
+use Rattle.nc_name.specs.declared.name.NameFault.{NameFault as NameCause}
+use Rattle.nc_words.specs.Words.{Asks, AsksNothing, HasBadName}
 use Rattle.nc_run.specs.declared.status.Status.{Status}
-use Rattle.nc_run.specs.declared.status.Status.TheVariants.{Width, Usage, Name}
+use Rattle.nc_run.specs.declared.status.Status.TheVariants.{Width, Usage, Name, ReadFault, WriteFault}
 use Rattle.nc_run.specs.Course.{Course, items_of}
-use Rattle.nc_run.specs.Ending.{unread}
+use Rattle.nc_run.specs.Ending.{CountsStream, IsEarly, IsRefused, unread}
 use Rattle.nc_run.specs.Standing.{RunStands}
 
 -- a number of clouds that files are spread over
@@ -49,6 +50,18 @@ pub record Sides (A B C : Type 0) : Type 0 where
 
 abbrev pub sides : {A B C : Type 0} → A → B → C → Sides A B C
 sides fleet source out = record { fleet = fleet; source = source; out = out }
+
+-- How a run is answered whatever it asks for: what is refused before any call on the clouds, and what the counts of its streams say.
+pub record IsAnswered {A B C : Type 0} (F : FleetGhosts A) (S : SourceGhosts B) (K : SinkGhosts C) (words : List (List ℕ))
+    (old new : Sides A B C) (status : Status) : Type 0 where
+  pub width : (w : ℕ) → (status ≡ Width w) ↔ ((w ≡ F.clouds old.fleet) × (IsWide w → ⊥))
+  pub usage : (status ≡ Usage) ↔ (IsWide (F.clouds old.fleet) × AsksNothing (F.clouds old.fleet) words)
+  pub name : (cause : NameCause) → (status ≡ Name cause)
+      ↔ (IsWide (F.clouds old.fleet) × HasBadName (F.clouds old.fleet) words cause)
+  pub early : IsEarly status → new.fleet ≡ old.fleet
+  pub refused : IsRefused status → (new.source ≡ old.source) × (new.out ≡ old.out)
+  pub read : CountsStream ReadFault S.counts_exactly (S.faults old.source) (S.faults new.source) status
+  pub write : CountsStream WriteFault K.counts_exactly (K.faults old.out) (K.faults new.out) status
 
 -- The input wasn't read to its end, for this cause, and nothing was begun.
 pub record Unread {A B C : Type 0} (S : SourceGhosts B) (command : Command) (old new : Sides A B C) (status : Status) : Type 0 where

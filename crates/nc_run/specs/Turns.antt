@@ -37,6 +37,11 @@ abbrev pub TakesNext : {A : Type 0} → FleetGhosts A → A → Option (Turn A) 
 TakesNext F old None new = new ≡ old
 TakesNext F old (Some t) new = Takes F old t × (new ≡ t.after)
 
+-- these acts, and then the next one
+abbrev pub turns_of : {A : Type 0} → List (Turn A) → Option (Turn A) → List (Turn A)
+turns_of done None = done
+turns_of done (Some t) = done ++ t ∷ []
+
 -- what they printed
 abbrev pub texts_of : {A : Type 0} → List (Turn A) → List ℕ
 texts_of [] = []

@@ -6,6 +6,8 @@ mod saying;
 mod sending;
 mod status;
 mod taking;
+mod watching;
 
-pub use running::run;
+pub use running::{run, run_shown};
 pub use status::Status;
+pub use watching::{Silent, Watch};
