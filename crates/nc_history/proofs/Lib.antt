@@ -1,0 +1,5 @@
+pub mod EntryLaws
+pub mod ActLaws
+pub mod HistoryLaws
+pub mod LossLaws
+pub mod GetLaws
