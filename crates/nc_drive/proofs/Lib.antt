@@ -1,0 +1,9 @@
+pub mod DriveLaws
+pub mod EndLaws
+pub mod EventLaws
+pub mod GetLaws
+pub mod HistoryLaws
+pub mod LossLaw
+pub mod RunLaws
+pub mod StopLaws
+pub mod TurnLaws

@@ -1,0 +1,303 @@
+ghost use Rattle.std.specs.Prelude.{◌≡◌, ◌<◌, IfOk};
+ghost use Rattle.nc_memory.specs.Memory.{width_of};
+ghost use Rattle.nc_drive.specs.Driving.{EventFits};
+
+use crate::driving::drive;
+use crate::event::{Event, Fates, WordList};
+use crate::outcome::Outcome;
+use nc_memory::{Damage, KeyFates, MemFleet, Torn};
+use nc_name::Blob;
+use std::alloc::Global;
+use std::test::Fail;
+use std::thread::Threads;
+
+// ---- events
+
+/// The words of a text, between its spaces.
+fn words_of(alloc: Global, text: &str) -> Result<WordList, Fail> {
+    let mut words = WordList::new(alloc);
+    for word in text.split(' ') {
+        words.push(String::from_str(alloc, word)?)?;
+    }
+    Ok(words)
+}
+
+fn run(alloc: Global, words: &str, input: &[u8]) -> Result<Event, Fail>
+    ensures { IfOk result (EventFits 4) }
+{
+    let words = words_of(alloc, words)?;
+    let input = Blob::from_slice(alloc, input)?;
+    Ok(Event::Run { words, input })
+}
+
+fn stop(alloc: Global, words: &str, input: &[u8], round: u64, fates: &[Torn]) -> Result<Event, Fail>
+    ensures { IfOk result (EventFits 4) }
+{
+    let words = words_of(alloc, words)?;
+    let input = Blob::from_slice(alloc, input)?;
+    let mut all = Fates::new(alloc);
+    for fate in fates {
+        all.push(*fate)?;
+    }
+    Ok(Event::Stop {
+        words,
+        input,
+        round,
+        fates: all,
+    })
+}
+
+/// The loss of one of the first two clouds.
+fn lose(alloc: Global, second: bool, rest: Torn) -> Event
+    ensures { EventFits 4 result }
+{
+    let cloud = if second { 1 } else { 0 };
+    let except = KeyFates::new(alloc);
+    Event::Lose {
+        cloud,
+        damage: Damage { rest, except },
+    }
+}
+
+/// What becomes of an event.
+fn after<R: Threads + Sync>(
+    rt: &R,
+    alloc: Global,
+    fleet: &mut MemFleet,
+    event: Event,
+) -> Result<Outcome, Fail>
+    requires wide { width_of fleet.old ≡ 4 }
+    requires fits { EventFits 4 event }
+    ensures { IfOk result (λ outcome. width_of fleet.new ≡ 4) }
+{
+    let outcomes = drive(rt, alloc, fleet, &[event])?;
+    match outcomes.into_items().pop() {
+        Some(outcome) => Ok(outcome),
+        None => Err(Fail::new("an event without an outcome")),
+    }
+}
+
+/// What a get prints, or no bytes where there is no file.
+fn got<R: Threads + Sync>(
+    rt: &R,
+    alloc: Global,
+    fleet: &mut MemFleet,
+    words: &str,
+) -> Result<Blob, Fail>
+    requires wide { width_of fleet.old ≡ 4 }
+    ensures { IfOk result (λ bytes. width_of fleet.new ≡ 4) }
+{
+    let outcome = after(rt, alloc, fleet, run(alloc, words, b"")?)?;
+    match outcome.status.code() {
+        0 | 3 => Ok(outcome.out),
+        _ => Err(Fail::new("a get that is stopped")),
+    }
+}
+
+// ---- two histories
+
+/// A put over an older one, stopped once the first cloud has its metadata.
+fn stopped_put<R: Threads + Sync>(rt: &R, alloc: Global, fleet: &mut MemFleet) -> Result<bool, Fail>
+    requires wide { width_of fleet.old ≡ 4 }
+    ensures { IfOk result (λ good. width_of fleet.new ≡ 4) }
+{
+    let first = after(rt, alloc, fleet, run(alloc, "put a", b"old")?)?;
+    let fates = [Torn::New, Torn::Old, Torn::Old];
+    let second = after(rt, alloc, fleet, stop(alloc, "put a", b"new!", 4, &fates)?)?;
+    let told = first.out.bytes() == b"generation 1\n".as_slice() && first.done == 1;
+    let quiet = second.status.code() == 0 && second.out.bytes().is_empty() && second.done == 0;
+    Ok(told && quiet && first.mark < second.mark)
+}
+
+#[test]
+fn a_loss_before_it_is_settled_brings_the_old_value_back(rt: HostRuntime) -> Result<(), Fail> {
+    let alloc = rt.alloc();
+    let mut fleet = MemFleet::new(alloc, 4)?;
+    assert!(rt; stopped_put(&rt, alloc, &mut fleet)?);
+    let lost = after(&rt, alloc, &mut fleet, lose(alloc, false, Torn::Gone))?;
+    assert!(rt; lost.status.code() == 0 && lost.done == 0);
+    let recovered = after(&rt, alloc, &mut fleet, run(alloc, "recover", b"")?)?;
+    assert!(rt; recovered.status.code() == 0 && recovered.done == 1);
+    let bytes = got(&rt, alloc, &mut fleet, "get a")?;
+    assert_eq!(rt; bytes.bytes(), b"old".as_slice());
+    Ok(())
+}
+
+#[test]
+fn a_loss_after_it_is_settled_leaves_the_new_value(rt: HostRuntime) -> Result<(), Fail> {
+    let alloc = rt.alloc();
+    let mut fleet = MemFleet::new(alloc, 4)?;
+    assert!(rt; stopped_put(&rt, alloc, &mut fleet)?);
+    let recovered = after(&rt, alloc, &mut fleet, run(alloc, "recover", b"")?)?;
+    assert!(rt; recovered.out.bytes() == b"settled 1\n".as_slice());
+    let lost = after(&rt, alloc, &mut fleet, lose(alloc, false, Torn::Gone))?;
+    assert!(rt; recovered.mark < lost.mark);
+    let bytes = got(&rt, alloc, &mut fleet, "get a")?;
+    assert_eq!(rt; bytes.bytes(), b"new!".as_slice());
+    Ok(())
+}
+
+#[test]
+fn a_run_without_the_round_is_a_run(rt: HostRuntime) -> Result<(), Fail> {
+    let alloc = rt.alloc();
+    let mut fleet = MemFleet::new(alloc, 4)?;
+    let events = [
+        run(alloc, "put a", b"abc")?,
+        stop(alloc, "get a", b"", 1000, &[])?,
+        stop(alloc, "look a", b"", 0, &[])?,
+        stop(alloc, "put a", b"new!", 0, &[Torn::New])?,
+        run(alloc, "get a", b"")?,
+    ];
+    let outcomes = drive(&rt, alloc, &mut fleet, &events)?;
+    let mut told = Vec::new(alloc);
+    for outcome in outcomes.items() {
+        told.push((
+            outcome.status.code(),
+            outcome.out.bytes().len(),
+            outcome.done,
+        ))?;
+    }
+    assert_eq!(rt;
+        told.as_slice(),
+        [(0, 13, 1), (0, 3, 1), (2, 0, 0), (0, 0, 0), (0, 3, 1)].as_slice()
+    );
+    Ok(())
+}
+
+// ---- histories by chance, and a plain model of what a get may give after them
+
+/// An act that gives a name a value: bytes, or no bytes for none. It was answered Ok, or only begun.
+#[derive(Drop)]
+struct Gave {
+    name: u8,
+    value: Vec<u8>,
+    done: bool,
+}
+
+/// The name has this value by the last act that was done, or one that was begun since.
+fn is_allowed(acts: &[Gave], name: u8, value: &[u8]) -> bool {
+    for act in acts.iter().rev() {
+        if act.name == name {
+            if act.value.as_slice() == value {
+                return true;
+            }
+            if act.done {
+                return false;
+            }
+        }
+    }
+    value.is_empty()
+}
+
+/// The next number of a linear congruence.
+fn next(state: &mut u32) -> u8 {
+    *state = state.wrapping_mul(1_664_525).wrapping_add(1_013_904_223);
+    state.to_be_bytes()[0]
+}
+
+fn fate(state: &mut u32) -> Torn {
+    match next(state) % 4 {
+        0 => Torn::Old,
+        1 => Torn::New,
+        2 => Torn::Gone,
+        _ => Torn::Broken,
+    }
+}
+
+/// One of three names.
+fn letter(name: u8) -> &'static str {
+    match name {
+        0 => "a",
+        1 => "b",
+        _ => "c",
+    }
+}
+
+/// 1 to 4 bytes.
+fn some_bytes(alloc: Global, state: &mut u32) -> Result<Vec<u8>, Fail> {
+    let mut bytes = Vec::new(alloc);
+    for _ in 0..1 + next(state) % 4 {
+        bytes.push(next(state))?;
+    }
+    Ok(bytes)
+}
+
+/// A put, or a removal where the value has no bytes; stopped in one of its rounds or not.
+fn giving(
+    alloc: Global,
+    state: &mut u32,
+    stopped: bool,
+    name: u8,
+    value: &[u8],
+) -> Result<Event, Fail>
+    ensures { IfOk result (EventFits 4) }
+{
+    let word = if value.is_empty() { "rm" } else { "put" };
+    let words = format!(in alloc; "{word} {}", letter(name))?;
+    if !stopped {
+        return run(alloc, words.as_str(), value);
+    }
+    let round = u64::from(next(state) % 8);
+    let fates = [fate(state), fate(state), fate(state), fate(state)];
+    stop(alloc, words.as_str(), value, round, &fates)
+}
+
+/// An event by chance, and what it gave.
+fn chance<R: Threads + Sync>(
+    rt: &R,
+    alloc: Global,
+    fleet: &mut MemFleet,
+    state: &mut u32,
+    acts: &mut Vec<Gave>,
+) -> Result<(), Fail>
+    requires wide { width_of fleet.old ≡ 4 }
+    ensures { IfOk result (λ u. width_of fleet.new ≡ 4) }
+{
+    let name = next(state) % 3;
+    let kind = next(state) % 8;
+    if kind == 6 {
+        let second = next(state) < 128;
+        after(rt, alloc, fleet, lose(alloc, second, fate(state)))?;
+        return Ok(());
+    }
+    if kind == 7 {
+        after(rt, alloc, fleet, run(alloc, "recover", b"")?)?;
+        return Ok(());
+    }
+    let value = if kind % 3 == 2 {
+        Vec::new(alloc)
+    } else {
+        some_bytes(alloc, state)?
+    };
+    let event = giving(alloc, state, 3 <= kind, name, value.as_slice())?;
+    let outcome = after(rt, alloc, fleet, event)?;
+    let done = outcome.done == 1;
+    acts.push(Gave { name, value, done })?;
+    Ok(())
+}
+
+/// All names give what they may after a few events by chance.
+fn history<R: Threads + Sync>(rt: &R, alloc: Global, seed: u32) -> Result<bool, Fail> {
+    let mut fleet = MemFleet::new(alloc, 4)?;
+    let mut acts = Vec::new(alloc);
+    let mut state = seed;
+    let mut good = true;
+    for _ in 0..6 {
+        chance(rt, alloc, &mut fleet, &mut state, &mut acts)?;
+        for name in 0..3u8 {
+            let words = format!(in alloc; "get {}", letter(name))?;
+            let bytes = got(rt, alloc, &mut fleet, words.as_str())?;
+            good = good && is_allowed(acts.as_slice(), name, bytes.bytes());
+        }
+    }
+    Ok(good)
+}
+
+#[test]
+fn a_get_gives_what_the_model_allows(rt: HostRuntime) -> Result<(), Fail> {
+    let alloc = rt.alloc();
+    for seed in 0..300u32 {
+        assert!(rt; history(&rt, alloc, seed)?, "seed {seed}");
+    }
+    Ok(())
+}
