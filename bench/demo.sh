@@ -135,7 +135,14 @@ rm "$scratch"/cloud?/m-656d707479-1
 mv "$scratch"/other "$scratch"/cloud1/m-656d707479-0
 show 11 "get where the only metadata is that of another cloud" "$scratch/empty" get empty
 rmdir "$scratch/cloud4" 2>/dev/null || rm -r "$scratch/cloud4"
-show 4 "get where a folder is gone: a cloud failed" "$scratch/empty" get longest
+show 0 "get where a folder is gone: a cloud failed, and isn't needed" "$scratch/empty" get longest
+same "$scratch/longest"
+rm -r "$scratch/cloud1"
+show 0 "get where two are gone" "$scratch/empty" get longest
+same "$scratch/longest"
+show 4 "put where a folder is gone: a cloud failed" "$scratch/byte" put byte
+rm -r "$scratch/cloud3"
+show 4 "get where three are gone" "$scratch/empty" get longest
 clouds=$scratch/cloud1,$scratch/cloud2,$scratch/cloud3
 show 2 "three clouds: too few" "$scratch/empty" get longest
 new_clouds 4

@@ -1,5 +1,6 @@
 #!/usr/bin/env bash
-# Times `put` and `get` of 64 MiB and of a byte on 4 and on 10 folders beside other programs, in turn. bench/README.md says what it means.
+# Times `put` and `get` of 64 MiB and of a byte on 4 and on 10 folders, with two of them lost too, beside other programs, in turn.
+# bench/README.md says what it means.
 set -eu
 cd "$(dirname "$0")/.."
 program=$PWD/crates/nccloud/out/nccloud
@@ -16,11 +17,12 @@ size = os.path.getsize(file)
 with open(byte, "wb") as sink:
     sink.write(b"x")
 folders = {width: [f"{scratch}/of{width}/cloud{number}" for number in range(width)] for width in (4, 10)}
+lost = [f"{scratch}/lost{number}" for number in range(2)]
 
 
 def empty_all():
     """All folders that the commands write to are there, and empty."""
-    for folder in [others, *folders[4], *folders[10]]:
+    for folder in [others, *lost, *folders[4], *folders[10]]:
         shutil.rmtree(folder, ignore_errors=True)
         os.makedirs(folder)
 
@@ -32,6 +34,8 @@ for width in (4, 10):
     for what, given in (("", file), (" of a byte", byte)):
         for title, command in (("put", "put"), ("put over it", "put"), ("get", "get")):
             commands[f"{title}{what}, {width} clouds"] = ([program, clouds, command, os.path.basename(given)], given)
+    left = ",".join(lost + folders[width][2:])
+    commands[f"get, two of {width} clouds lost"] = ([program, left, "get", "file"], file)
 commands["sha256sum"] = (["sha256sum"], file)
 commands["cp"] = (["cp", file, others + "/cp"], file)
 commands["cp and sync"] = (["sh", "-c", 'cp "$0" "$1" && sync "$1"', file, others + "/synced"], file)
@@ -49,7 +53,16 @@ for width in (4, 10):
 absent = {words[0] for words, _ in commands.values() if not shutil.which(words[0])}
 commands = {name: (words, given) for name, (words, given) in commands.items() if words[0] not in absent}
 
+
+
+def bytes_read(child):
+    """How many bytes a program that has ended asked the system for, and got."""
+    with open(f"/proc/{child}/io") as counts:
+        return int(counts.readline().split()[1])
+
+
 seconds = {name: [] for name in commands}
+read = {}
 peaks = {name: 0 for name in commands}
 for _ in range(runs):
     empty_all()
@@ -57,8 +70,10 @@ for _ in range(runs):
         with open(given, "rb") as source:
             start = time.perf_counter()
             child = subprocess.Popen(words, stdin=source, stdout=subprocess.DEVNULL)
-            _, status, used = os.wait4(child.pid, 0)
+            os.waitid(os.P_PID, child.pid, os.WEXITED | os.WNOWAIT)
             seconds[name].append(time.perf_counter() - start)
+            read[name] = bytes_read(child.pid)
+            _, status, used = os.wait4(child.pid, 0)
             child.returncode = os.waitstatus_to_exitcode(status)
         if child.returncode != 0:
             sys.exit(f"{name} ended with status {child.returncode}")
@@ -69,5 +84,5 @@ for word in sorted(absent):
 beside = min(seconds["sha256sum"])
 for name in commands:
     least = min(seconds[name])
-    print(f"{name:32} {least * 1000:8.1f} ms   {least / beside:6.2f} x sha256sum   peak {peaks[name] / 1024:5.0f} MiB")
+    print(f"{name:32} {least * 1000:8.1f} ms   {least / beside:6.2f} x sha256sum   reads {read[name] / size:5.2f} x the file   peak {peaks[name] / 1024:5.0f} MiB")
 PYTHON
