@@ -69,7 +69,7 @@ chunk_bytes x (suc (suc r)) are h = absurd (omega arith)
 
 -- ---- the natives, byte by byte
 
-mixed_at : (size : ℕ) (row : List ℕ) (sources : List (List ℕ)) (p : ℕ) → p < size → get_or (mixed size row sources) p 0 ≡ mixed_byte (length sources) row sources p
+pub mixed_at : (size : ℕ) (row : List ℕ) (sources : List (List ℕ)) (p : ℕ) → p < size → get_or (mixed size row sources) p 0 ≡ mixed_byte (length sources) row sources p
 unfolding mixed
 mixed_at size row sources p h = get_or-map-range_with_len (mixed_byte (length sources) row sources) 0 size p p 0 h (omega arith)
 

@@ -3,3 +3,4 @@ pub mod Missing
 pub mod Solving
 pub mod Squares
 pub mod FileBack
+pub mod Regenerated

@@ -43,7 +43,7 @@ pub fn encode<R: Threads + Sync, G: Gate + Sync>(
 }
 
 /// The bytes of each blob.
-fn lend(alloc: Global, blobs: &[Blob]) -> Result<Vec<&[u8]>, Memory>
+pub fn lend(alloc: Global, blobs: &[Blob]) -> Result<Vec<&[u8]>, Memory>
     ensures { IfOk result (λ v. lent v.items ≡ blobs.now) }
 {
     let mut list = Vec::new(alloc);

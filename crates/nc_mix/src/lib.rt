@@ -1,4 +1,5 @@
 //! Mixing: the chunks that the clouds hold are combinations of a file's natives, and a file comes back from combinations.
+//! The chunks of a lost cloud are made anew of those of the others, without the file.
 //! The terms of a sum may stand in any order; the bytes are the same.
 #![tactic(auto)]
 
@@ -7,16 +8,20 @@ mod decoding;
 mod encoding;
 mod gates;
 mod pieces;
+mod regenerating;
 
 pub use decoding::decode;
 pub use encoding::encode;
 pub use gates::{Gate, Open};
 use nc_name::{Blob, Sequence};
-pub use pieces::Piece;
+pub use pieces::{Pair, Piece};
+pub use regenerating::regenerate;
 
 /// The chunks that the clouds hold of a file, two for each cloud, in order.
 pub type Chunks = Sequence<Blob>;
 
+#[cfg(test)]
+mod repair_tests;
 #[cfg(test)]
 mod tests;
 #[cfg(test)]

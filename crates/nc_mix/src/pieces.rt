@@ -9,3 +9,12 @@ pub struct Piece {
     /// The chunk of the cloud's row 1.
     pub one: Blob,
 }
+
+/// The two chunks of one cloud, made anew.
+#[derive(Debug, Drop)]
+pub struct Pair {
+    /// The chunk of the cloud's new row 0.
+    pub zero: Blob,
+    /// The chunk of the cloud's new row 1.
+    pub one: Blob,
+}

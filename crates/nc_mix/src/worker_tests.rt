@@ -1,9 +1,10 @@
 //! Mixing by several workers.
 
+use crate::repair_tests::{made_anew, mixed_plan};
 use crate::tests::{comes_back, file_of};
 use crate::{Gate, Open, encode};
 use nc_code::striped;
-use nc_native::cut;
+use nc_native::{chunk_size, cut};
 use std::sync::atomic::{AtomicU64, Ordering};
 use std::test::Fail;
 
@@ -62,6 +63,21 @@ fn two_workers_meet_in_the_gate(rt: HostRuntime) -> Result<(), Fail> {
     )?;
     assert!(rt; back);
     assert!(rt; decoding.took_place());
+    let repairing = Meeting::new();
+    let size = chunk_size(file.len() as u64, 4) as usize;
+    let plan = mixed_plan();
+    made_anew(
+        &rt,
+        rt.alloc(),
+        chunks.items(),
+        &plan,
+        1,
+        4,
+        size,
+        2,
+        &repairing,
+    )?;
+    assert!(rt; repairing.took_place());
     Ok(())
 }
 
