@@ -82,7 +82,7 @@ skip c a asks other =
       | inr differs ↦ ap (λ (b : Bool). (if b && (is_chunk a.key && is_bytes a.answer) then 1 else 0) + chunks_got c asks) differs.0 ∙ omega arith
     ]
 
-none_got : (c : ℕ) (asks : List Ask) → All (λ a. a.cloud ≢ c) asks → chunks_got c asks ≡ 0
+pub none_got : (c : ℕ) (asks : List Ask) → All (λ a. a.cloud ≢ c) asks → chunks_got c asks ≡ 0
 none_got c [] none = refl
 none_got c (a ∷ asks) none = skip c a asks (none 0 a (omega arith)) ∙ none_got c asks (λ k d l. none (suc k) d (omega (arith, l)))
 
@@ -93,7 +93,7 @@ one_here c a asks same none =
       | inr differs ↦ absurd (differs.1 same)
     ]
 
-one_got : (c : ℕ) (asks : List Ask) (x : Ask) → AllPairs (λ a b. a.cloud < b.cloud) asks → Contains asks x → x.cloud ≡ c → chunks_got c asks ≡ (if is_chunk x.key && is_bytes x.answer then 1 else 0)
+pub one_got : (c : ℕ) (asks : List Ask) (x : Ask) → AllPairs (λ a b. a.cloud < b.cloud) asks → Contains asks x → x.cloud ≡ c → chunks_got c asks ≡ (if is_chunk x.key && is_bytes x.answer then 1 else 0)
 one_got c [] x rising (i, l, is) same = absurd (omega arith)
 one_got c (a ∷ asks) x rising (zero, l, is) same =
     let here : a.cloud ≡ c = ap (λ (b : Ask). b.cloud) is ∙ same in

@@ -9,4 +9,4 @@ mod trying;
 
 pub use fetching::fetch;
 pub use parts::{PartFault, read_part};
-pub use trying::try_clouds;
+pub use trying::{get_row, try_clouds};

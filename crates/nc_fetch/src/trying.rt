@@ -153,8 +153,8 @@ fn ask_row<F: Fleet>(
     judge_row(alloc, width, name, live, row, on, asks)
 }
 
-/// The same entries, answered in one round.
-fn get_row<F: Fleet>(fleet: &mut F, mut asks: Vec<Ask>) -> Vec<Ask>
+/// The same entries, answered in one round of gets, in which each answers for itself. Where there are no entries, no round is made.
+pub fn get_row<F: Fleet>(fleet: &mut F, mut asks: Vec<Ask>) -> Vec<Ask>
     requires ready { F.ready }
     requires clouds { AreAscending (λ a. a.cloud) (F.clouds fleet.old) asks.items }
     ensures entries { map asked result.items ≡ map asked asks.items }

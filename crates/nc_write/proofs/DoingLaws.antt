@@ -29,7 +29,7 @@ has_next top before next is more last worn = let high : next ≤ 2 ^ 64 - 2 = la
 
 -- ---- nothing was done
 
-unmade : (n : ℕ) (name : List ℕ) (makes : Version → Version → Type 0) (top : Option Meta) (V : Vault) (H : Contents) → IsName name → ComesTo n name V H top → BeginsMaking n name makes V H
+pub unmade : (n : ℕ) (name : List ℕ) (makes : Version → Version → Type 0) (top : Option Meta) (V : Vault) (H : Contents) → IsName name → ComesTo n name V H top → BeginsMaking n name makes V H
 unmade n name makes top V H is comes = record {
   made = None;
   makes_it = tt;
@@ -76,7 +76,7 @@ by_answer P is p = subst P (sym is) p
 
 module _ {A : Type 0} (F : FleetGhosts A) where
   -- nothing was done
-  begins_none : (n : ℕ) (name : List ℕ) (top : Option Meta) (makes : Version → Version → Type 0) (old new : A) → IsName name → new ≡ old → MayBegin F n name top makes old new
+  pub begins_none : (n : ℕ) (name : List ℕ) (top : Option Meta) (makes : Version → Version → Type 0) (old new : A) → IsName name → new ≡ old → MayBegin F n name top makes old new
   begins_none n name top makes old new is_name same =
       subst (λ (e : A). MayBegin F n name top makes old e) (sym same)
       (record { each = λ V comes. keeps_none old (BeginsMaking n name makes V) (unmade n name makes top V (F.held old) is_name comes) })

@@ -16,6 +16,8 @@ mod tidying;
 mod writing;
 
 pub use fault::WriteFault;
+pub use live::told_plans;
+pub use marks::mark_of;
 pub use preparing::prepare;
 pub use putting::put;
 pub use removing::remove;

@@ -65,7 +65,7 @@ pub fn next_slot(top: &Option<Meta>, cloud: u8) -> u8
 }
 
 /// Tells what the type of plans keeps of each.
-fn told_plans(witnesses: &Witnesses)
+pub fn told_plans(witnesses: &Witnesses)
     ensures count { length witnesses.now.plans ≡ 10 }
     ensures plans { (lost : ℕ) → lost < 10 → IsPlan (plan_of witnesses.now lost) }
 {

@@ -22,7 +22,7 @@ pub fn marks_of(chunks: &[Blob]) -> [[u8; 32]; 20]
 }
 
 /// The SHA-256 of a chunk's payload.
-fn mark_of(chunk: &Blob) -> [u8; 32]
+pub fn mark_of(chunk: &Blob) -> [u8; 32]
     ensures value { result ≡ sha256 chunk.now }
     ensures bytes { AreBytes result }
 {

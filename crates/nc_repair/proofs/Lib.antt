@@ -1,0 +1,10 @@
+pub mod AskingLaws
+pub mod CauseLaws
+pub mod ChosenLaws
+pub mod CostLaws
+pub mod DoneLaws
+pub mod GivingLaws
+pub mod MendingLaws
+pub mod NewLaws
+pub mod RemakingLaws
+pub mod TurnLaws

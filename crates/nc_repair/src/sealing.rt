@@ -1,0 +1,48 @@
+ghost use Rattle.std.specs.Prelude.{◌≡◌, ◌+◌, IfOk};
+ghost use Rattle.nc_meta.specs.Parts.{IsGeneration};
+ghost use Rattle.nc_repair.specs.Mending.{IsMadeOf, alone_at};
+ghost use Rattle.nc_repair.specs.Survivors.{HasLost};
+
+use crate::live::mended_live;
+use nc_meta::Live;
+use nc_mix::Pair;
+use nc_name::{Blob, Memory, Name};
+use nc_nextloss::GoodCode;
+use nc_write::{Placed, VersionWrites, seal_version};
+use std::alloc::Global;
+
+/// Seals the new chunks of the lost cloud, in its other slot, and the metadata of the repaired file.
+pub(crate) fn seal_mended(
+    alloc: Global,
+    width: u8,
+    name: &Name,
+    old: &Live,
+    generation: u64,
+    lost: u8,
+    good: &GoodCode,
+    pair: Pair,
+) -> Result<VersionWrites, Memory>
+    requires next { generation ≡ old.now.generation + 1 }
+    requires last { IsGeneration generation }
+    requires lost { HasLost width lost old.now }
+    requires width { good.now.code.width ≡ width }
+    ensures { IfOk result (IsMadeOf width name.now lost old.now good.now pair.zero pair.one) }
+{
+    let Pair { zero, one } = pair;
+    let live = mended_live(width, old, generation, lost, good, &zero, &one);
+    let zeros = alone(alloc, lost, zero)?;
+    let ones = alone(alloc, lost, one)?;
+    let writes = seal_version(alloc, width, name, &live, zeros, ones)?;
+    Ok(writes)
+}
+
+/// One chunk, on this cloud.
+fn alone(alloc: Global, cloud: u8, chunk: Blob) -> Result<Vec<Placed>, Memory>
+    ensures { IfOk result (λ placed. placed.items ≡ alone_at cloud chunk) }
+{
+    let mut placed = Vec::new(alloc);
+    match placed.push(Placed { cloud, chunk }) {
+        Ok(()) => Ok(placed),
+        Err(_) => Err(Memory),
+    }
+}
