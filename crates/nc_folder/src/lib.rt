@@ -3,7 +3,5 @@
 
 mod files;
 mod folder;
-#[cfg(test)]
-mod tests;
 
 pub use folder::FolderCloud;

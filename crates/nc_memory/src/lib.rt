@@ -1,8 +1,6 @@
 //! Clouds in memory, which fail where they were told to.
 #![tactic(auto)]
 
-#[cfg(test)]
-mod cloud_tests;
 mod log;
 mod mem_cloud;
 mod memory;
@@ -13,8 +11,6 @@ mod shelf;
 mod site;
 mod stops;
 mod store;
-#[cfg(test)]
-mod tests;
 
 pub use mem_cloud::MemCloud;
 pub use memory::MemFleet;

@@ -51,8 +51,6 @@ mod get_scenes;
 #[cfg(test)]
 mod long_scenes;
 #[cfg(test)]
-mod look_tests;
-#[cfg(test)]
 mod over_scenes;
 #[cfg(test)]
 mod planted_scenes;
@@ -63,8 +61,6 @@ mod put_scenes;
 #[cfg(test)]
 mod running;
 #[cfg(test)]
-mod settle_tests;
-#[cfg(test)]
 mod steps;
 #[cfg(test)]
 mod stopped_scenes;
@@ -74,5 +70,3 @@ mod stored_scenes;
 mod value;
 #[cfg(test)]
 mod word_scenes;
-#[cfg(test)]
-mod write_tests;

@@ -1,12 +1,12 @@
+//! A fleet in memory: what refused and stopped writes, lists and losses leave.
 ghost use Rattle.std.specs.Prelude.{◌≡◌, ◌<◌};
 ghost use Rattle.nc_name.specs.Keys.{Slots};
 ghost use Rattle.nc_memory.specs.Memory.{width_of};
 
-use crate::cloud_tests::{chunk, meta};
-use crate::memory::MemFleet;
-use crate::record::{Damage, KeyFate, KeyFates, Torn};
+use crate::keys::{chunk, meta};
 use nc_cloud::{Answer, Ask, CloudError, Done, Erase, Fleet, Job};
 use nc_frame::seal;
+use nc_memory::{Damage, KeyFate, KeyFates, MemFleet, Torn};
 use nc_name::{Key, Memory, Name};
 use std::alloc::Global;
 use std::test::Fail;

@@ -1,55 +1,15 @@
+//! Clouds side by side, in memory.
 ghost use Rattle.std.specs.Prelude.{◌≡◌, ◌<◌, length, IfOk};
 ghost use Rattle.nc_name.specs.Keys.{Slots};
 ghost use Rattle.nc_frame.specs.Frames.{Whole};
 
-use crate::mem_cloud::MemCloud;
-use crate::record::Torn;
-use nc_cloud::{Answer, Ask, Cloud, CloudError, Done, Erase, Fanned, Fleet, Got, Job};
+use crate::keys::meta;
+use nc_cloud::{Answer, Ask, CloudError, Done, Erase, Fanned, Fleet, Job};
 use nc_frame::seal;
+use nc_memory::{MemCloud, Torn};
 use nc_name::{Key, Memory, Name};
 use std::alloc::Global;
 use std::test::Fail;
-
-pub(crate) fn meta(name: Name) -> Key
-    ensures { Slots result }
-{
-    Key::Meta { name, slot: 0 }
-}
-
-pub(crate) fn chunk(name: Name, row: u8) -> Key
-    requires { row < 2 }
-    ensures { Slots result }
-{
-    Key::Chunk { name, slot: 0, row }
-}
-
-fn gave(got: &Got, len: usize) -> bool {
-    match got {
-        Got::Bytes(bytes) => bytes.bytes().len() == len,
-        _ => false,
-    }
-}
-
-fn put(alloc: Global, cloud: &mut MemCloud, key: &Key) -> Result<(), CloudError>
-    requires { Slots key.now }
-{
-    let bytes = seal(alloc, 0, 4, key, &[4, 4])?;
-    cloud.put(key, bytes.bytes())
-}
-
-#[test]
-fn a_broken_delete_leaves_an_empty_object(rt: HostRuntime) -> Result<(), Fail> {
-    let key = meta(Name::read("a")?);
-    let mut cloud = MemCloud::new(rt.alloc());
-    cloud.refuse(2, Torn::Broken)?;
-    put(rt.alloc(), &mut cloud, &key)?;
-    assert!(rt; matches!(cloud.delete(&key), Err(CloudError::Failed)));
-    assert!(rt; gave(&cloud.get(&key, 58)?, 0));
-    cloud.delete(&key)?;
-    cloud.delete(&key)?;
-    assert!(rt; matches!(cloud.get(&key, 58)?, Got::Absent));
-    Ok(())
-}
 
 /// Two clouds, the first of which fails at its first call.
 fn two(alloc: Global) -> Result<Vec<MemCloud>, Memory>

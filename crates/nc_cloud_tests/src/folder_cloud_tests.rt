@@ -1,28 +1,14 @@
+//! Folders as clouds. What stands in them is the system's word, so tests alone look at it.
 ghost use Rattle.nc_name.specs.Keys.{Slots};
 
-use crate::folder::FolderCloud;
+use crate::keys::{chunk, meta};
 use nc_cloud::{Cloud, CloudError, Got};
+use nc_folder::FolderCloud;
 use nc_frame::seal;
 use nc_name::{Blob, Key, Name};
 use std::alloc::Global;
 use std::fs;
 use std::test::Fail;
-
-fn meta(name: Name) -> Key
-    ensures { Slots result }
-{
-    Key::Meta { name, slot: 0 }
-}
-
-fn chunk(name: Name) -> Key
-    ensures { Slots result }
-{
-    Key::Chunk {
-        name,
-        slot: 0,
-        row: 0,
-    }
-}
 
 fn gave(got: &Got, bytes: &[u8]) -> bool {
     match got {
@@ -66,12 +52,12 @@ fn failures(alloc: Global, folder: &mut FolderCloud, key: &Key) -> Result<u8, Fa
 fn objects_are_written_read_listed_and_deleted(rt: HostRuntime) -> Result<(), Fail> {
     fs::create_dir_all(&rt, "scratch_objects")?;
     let (name, other) = (Name::read("a")?, Name::read("b")?);
-    let key = chunk(name);
+    let key = chunk(name, 0);
     let mut folder = FolderCloud::open(rt, "scratch_objects")?;
     assert!(rt; matches!(folder.get(&key, 58)?, Got::Absent));
     store(rt.alloc(), &mut folder, &meta(other))?;
     store(rt.alloc(), &mut folder, &meta(name))?;
-    store(rt.alloc(), &mut folder, &chunk(other))?;
+    store(rt.alloc(), &mut folder, &chunk(other, 0))?;
     let bytes = store(rt.alloc(), &mut folder, &key)?;
     assert!(rt; gave(&folder.get(&key, 58)?, bytes.bytes()));
     assert!(rt; matches!(folder.get(&key, 57)?, Got::Long));
@@ -81,7 +67,7 @@ fn objects_are_written_read_listed_and_deleted(rt: HostRuntime) -> Result<(), Fa
     for (found, want) in listed
         .items()
         .iter()
-        .zip([key, chunk(other), meta(name), meta(other)])
+        .zip([key, chunk(other, 0), meta(name), meta(other)])
     {
         assert!(rt; found.is_same(&want));
     }
@@ -119,7 +105,7 @@ fn what_is_no_folder_fails(rt: HostRuntime) -> Result<(), Fail> {
 #[test]
 fn a_changed_file_is_given_as_it_is(rt: HostRuntime) -> Result<(), Fail> {
     fs::create_dir_all(&rt, "scratch_changed")?;
-    let key = chunk(Name::read("a")?);
+    let key = chunk(Name::read("a")?, 0);
     let frame = seal(rt.alloc(), 0, 4, &key, &[4, 4])?;
     let mut folder = FolderCloud::open(rt, "scratch_changed")?;
     folder.put(&key, frame.bytes())?;

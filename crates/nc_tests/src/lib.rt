@@ -1,0 +1,14 @@
+//! Tests of the crates that look for files, settle, write and repair them, over clouds in memory. They stand apart, so that
+//! the tested crates aren't proved once more with them.
+#![tactic(auto)]
+
+#[cfg(test)]
+mod codes;
+#[cfg(test)]
+mod look_tests;
+#[cfg(test)]
+mod repair_tests;
+#[cfg(test)]
+mod settle_tests;
+#[cfg(test)]
+mod write_tests;
