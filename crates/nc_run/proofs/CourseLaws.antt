@@ -87,6 +87,7 @@ module _ {A C W : Type 0} (F : FleetGhosts A) (K : SinkGhosts C) (V : WatchGhost
   course_told (reply.Bytes bytes) acted saw all quiet = told (reply.Bytes bytes) refl acted saw all
   course_told (reply.Listing rows) acted saw all quiet = told (reply.Listing rows) refl acted saw all
   course_told (reply.About generation len witnessed) acted saw all quiet = told (reply.About generation len witnessed) refl acted saw all
+  course_told (reply.Repaired files) acted saw all quiet = told (reply.Repaired files) refl acted saw all
   course_told (reply.Settled names) acted saw all quiet = told (reply.Settled names) refl acted saw all
   course_told (reply.Stopped cause after) acted saw all quiet = record {
     course = record {

@@ -39,6 +39,7 @@ done_end n task V G (reply.Removed generation) done end = end
 done_end n task V G (reply.Bytes bytes) done end = end
 done_end n task V G (reply.Listing rows) done end = end
 done_end n task V G (reply.About generation len witnessed) done end = end
+done_end n task V G (reply.Repaired files) done end = end
 done_end n task V G (reply.Settled names) done end = end
 
 stopped_end : (n : ℕ) (task : Task) (V : Vault) (G : Contents) (answer : Reply) → is_done answer ≡ false → StandsAtEnd n task V G answer → StandsBegun n task V G
@@ -48,6 +49,7 @@ stopped_end n task V G (reply.Removed generation) done end = absurd cc
 stopped_end n task V G (reply.Bytes bytes) done end = absurd cc
 stopped_end n task V G (reply.Listing rows) done end = absurd cc
 stopped_end n task V G (reply.About generation len witnessed) done end = absurd cc
+stopped_end n task V G (reply.Repaired files) done end = absurd cc
 stopped_end n task V G (reply.Settled names) done end = absurd cc
 
 -- ---- what leads to contents

@@ -11,6 +11,7 @@ fault_code fault.NoFile = 3
 fault_code (fault.Cloud c) = 4
 fault_code (fault.Short clouds) = 5
 fault_code (fault.Spent tried) = 6
+fault_code (fault.Damaged c r how) = 10
 fault_code (fault.Conflict g a b) = 11
 fault_code (fault.Misplaced c a b) = 11
 fault_code (fault.Unsound a b) = 11

@@ -30,5 +30,6 @@ text_of (reply.Removed generation) = number_text (codes "generation ") generatio
 text_of (reply.Bytes bytes) = bytes
 text_of (reply.Listing rows) = concat (map row_text rows)
 text_of (reply.About generation len witnessed) = about_text generation len witnessed
+text_of (reply.Repaired files) = number_text (codes "repaired ") files
 text_of (reply.Settled names) = number_text (codes "settled ") names
 text_of (reply.Stopped cause after) = []

@@ -1,6 +1,7 @@
 ghost use Rattle.std.specs.Prelude.{◌≡◌, ◌↔◌, ◌≤◌, ◌^◌, ◌∷◌, [], map, length, string_bytes, IsTrue};
-ghost use Rattle.nc_words.specs.Acts.{task_of};
+ghost use Rattle.nc_words.specs.Acts.{FitsWidth, task_of};
 ghost use Rattle.nc_words.specs.Settings.{IsSetting};
+ghost use Rattle.nc_words.specs.Words.{FitsCommand};
 ghost use Rattle.nc_run.specs.Course.Item.{Alone};
 ghost use Rattle.nc_run.specs.Ending.{CountsStream, IsEarly, IsRefused, status_of};
 ghost use Rattle.nc_run.specs.Running.{Concludes, IsAnswered, IsWide, sides};
@@ -92,6 +93,7 @@ fn run_asked<R: Threads + Sync, F: Fleet, S: Source, K: Sink, W: Watch<F>>(
     requires ready { F.ready }
     requires width { IsWide (F.clouds fleet.old) }
     requires setting { IsSetting request.now.setting }
+    requires fits { FitsCommand (F.clouds fleet.old) request.now.command }
     requires begins { W.knows watch.old watch.old [] fleet.old }
     ensures begun { IsRefused result → ⊥ }
     ensures early { IsEarly result → fleet.new ≡ fleet.old }
@@ -132,6 +134,7 @@ fn run_act<R: Threads + Sync, F: Fleet, K: Sink, W: Watch<F>>(
     requires ready { F.ready }
     requires width { IsWide (F.clouds fleet.old) }
     requires setting { IsSetting setting.now }
+    requires fits { FitsWidth (F.clouds fleet.old) act.now }
     requires short { length bytes.now ≤ 2 ^ 26 }
     requires begins { W.knows watch.old watch.old [] fleet.old }
     ensures begun { IsRefused result → ⊥ }
@@ -160,7 +163,8 @@ fn was_done(reply: &Reply) -> bool
 {
     match reply {
         Reply::Stopped { .. } => false,
-        Reply::Stored { .. } | Reply::Removed { .. } | Reply::Settled { .. } => true,
+        Reply::Stored { .. } | Reply::Removed { .. } => true,
+        Reply::Repaired { .. } | Reply::Settled { .. } => true,
         Reply::Bytes(_) | Reply::Listing(_) | Reply::About { .. } => true,
     }
 }
@@ -183,6 +187,7 @@ fn status_by(reply: Reply) -> Status
             len: _,
             witnessed: _,
         } => Status::Ok,
+        Reply::Repaired { files: _ } => Status::Ok,
         Reply::Settled { names: _ } => Status::Ok,
     }
 }

@@ -26,6 +26,7 @@ pub fn say<K: Sink>(out: &mut K, reply: &Reply) -> Result<(), Failed>
             len,
             witnessed,
         } => say_about(out, *generation, *len, *witnessed),
+        Reply::Repaired { files } => say_number(out, b"repaired ", *files),
         Reply::Settled { names } => say_number(out, b"settled ", *names),
         Reply::Stopped { .. } => Ok(()),
     }

@@ -60,6 +60,7 @@ fn code_of(fault: &Fault) -> u8
         Fault::Cloud(_) => 4,
         Fault::Short(_) => 5,
         Fault::Spent(_) => 6,
+        Fault::Damaged { .. } => 10,
         Fault::Conflict { .. } | Fault::Misplaced { .. } | Fault::Unsound { .. } => 11,
         Fault::Worn => 12,
     }

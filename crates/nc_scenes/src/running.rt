@@ -154,6 +154,7 @@ fn status_by(reply: Reply) -> Status {
             len: _,
             witnessed: _,
         } => Status::Ok,
+        Reply::Repaired { files: _ } => Status::Ok,
         Reply::Settled { names: _ } => Status::Ok,
     }
 }

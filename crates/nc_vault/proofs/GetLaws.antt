@@ -72,7 +72,7 @@ module _ {A : Type 0} (F : FleetGhosts A) (s : Setting) (name bytes : List ℕ) 
   failing = failing_in F (act.Get name) old new
 
   reads : OnlyReads (act.Get name)
-  reads = record { works = λ n G. refl; changes = λ G H is. is }
+  reads = record { works = λ n G. refl; changes = λ G H is. is; damaged = λ D. refl }
 
   risen : HasRisen F old new failing
   risen = record { each = λ c within is. rose_is (F.faults old c) (F.faults new c) false is }
@@ -106,6 +106,7 @@ module _ {A : Type 0} (F : FleetGhosts A) (s : Setting) (name bytes : List ℕ) 
     kind = tt;
     counts = λ exact. came_few F (act.Get name) refl name old new v fetches exact;
     costs = tt;
+    took = tt;
     before = tt;
     only = λ told. reads_only F task reads looked.held stops;
     says = λ told. tt;
@@ -129,6 +130,7 @@ module _ {A : Type 0} (F : FleetGhosts A) (s : Setting) (name bytes : List ℕ) 
     kind = refl;
     counts = get_counts F name old new f fetches;
     costs = get_costs name (F.chunk_gets old) (F.chunk_gets new) f unread;
+    took = tt;
     before = get_before (F.held old) (F.held new) f looked.held;
     only = λ told. reads_only F task reads looked.held stops;
     says = λ told. tt;

@@ -11,10 +11,14 @@ pub mod PutLaws
 mod ReadLaws
 mod RecoverLaws
 pub mod RecoverPart
-mod RecoverStates
 pub mod RemoveLaws
+mod RepairLaws
+pub mod RepairPart
+pub mod RowLaws
 mod SameName
 mod SeenLaws
-pub mod RowLaws
 pub mod StatLaws
+mod SweepActs
+mod SweepLaws
+mod SweepStates
 mod TidyLaws

@@ -262,6 +262,7 @@ shows_before F old mid names lens Q X clouds held has shows =
 stays : (G H : Contents) (f : Fault) (after : Option ℕ) → H ≡ G → StaysBefore G H (reply.Stopped f after)
 stays G H fault.NoFile after same = tt
 stays G H (fault.Cloud c) after same = tt
+stays G H (fault.Damaged c r how) after same = tt
 stays G H (fault.Short bads) after same = tt
 stays G H (fault.Conflict g a b) after same = λ first. same
 stays G H (fault.Misplaced c a b) after same = λ first. same
@@ -274,6 +275,7 @@ stays G H fault.Memory after same = tt
 refused_none : {A : Type 0} (F : FleetGhosts A) (old new : A) (cause : Fault) (after : Option ℕ) → RefusesName F old new cause after → ListsNone F old new cause after
 refused_none F old new fault.NoFile after is = inr is
 refused_none F old new (fault.Cloud c) after is = inr is
+refused_none F old new (fault.Damaged c r how) after is = inr is
 refused_none F old new (fault.Short bads) after is = inr is
 refused_none F old new (fault.Conflict g a b) after is = inr is
 refused_none F old new (fault.Misplaced c a b) after is = inr is
@@ -289,7 +291,7 @@ module _ {A : Type 0} (F : FleetGhosts A) (s : Setting) (bytes : List ℕ) (old 
   task = task_of s act.List bytes
 
   reads : OnlyReads act.List
-  reads = record { works = λ n G. refl; changes = λ G H is. is }
+  reads = record { works = λ n G. refl; changes = λ G H is. is; damaged = λ D. refl }
 
   none_among : (names : List (List ℕ)) (of : List ℕ) → WorksOn (F.clouds old) (F.held old) act.List names → Contains names of → ⊥
   none_among names of works among = in_none of (subst (λ (ns : List (List ℕ)). Contains ns of) works among)
@@ -303,6 +305,7 @@ module _ {A : Type 0} (F : FleetGhosts A) (s : Setting) (bytes : List ℕ) (old 
     kind = tt;
     counts = counts;
     costs = read.gets;
+    took = tt;
     before = stays (F.held old) (F.held new) f (Some done) read.held;
     only = λ told. reads_only F task reads read.held read.stops;
     says = λ told. tt;
@@ -345,6 +348,7 @@ module _ {A : Type 0} (F : FleetGhosts A) (s : Setting) (bytes : List ℕ) (old 
         kind = tt;
         counts = few_many F old new Q failed few;
         costs = read.gets;
+        took = tt;
         before = tt;
         only = λ told. reads_only F task reads read.held read.stops;
         says = λ told. tt;

@@ -1,25 +1,33 @@
 -- From the work on one name to that on all.
-use Rattle.std.proofs.Common.{◌≡◌, ◌<◌, ◌+◌, ℕ, Bool, true, false, if◌then◌else◌, Option, Some, None, List, [], Contains, IfSome, length, take, slice_get, inl, inr, refl, sym, ap, ◌∙◌, subst, arith}
+use Rattle.std.proofs.Common.{◌≡◌, ◌<◌, ◌+◌, ◌==◌, ℕ, Bool, true, false, if◌then◌else◌, Option, Some, None, List, [], Contains, IfSome, length, take, slice_get, inl, inr, refl, sym, ap, ◌∙◌, subst, arith}
 use Rattle.std.specs.Str.{bytes_eq}
+use Rattle.std.proofs.lemmas.Bool.Decides.{eqb_tells}
 use Rattle.std.proofs.lemmas.Slice.Eq.{bytes_eq-Decides}
 use Rattle.nc_name.specs.declared.key.Key.{Key}
+use Rattle.nc_name.specs.declared.key.Key.TheVariants as key
 use Rattle.nc_name.specs.Keys.{name_of}
+use Rattle.nc_name.specs.Names.{IsName}
 use Rattle.nc_cloud.specs.Contents.{Contents}
-use Rattle.nc_state.specs.Clouds.{Clouds}
+use Rattle.nc_state.specs.Clouds.{Clouds, without_cloud}
 use Rattle.nc_state.specs.ChunkLaws.{SameAt}
 use Rattle.nc_state.specs.Entries.{Entry}
 use Rattle.nc_state.specs.Entries.Entry.{Rest, Opened}
+use Rattle.nc_state.specs.Holding.{AllHold}
 use Rattle.nc_state.specs.Right.{IsRight, RightOn}
-use Rattle.nc_state.specs.Standing.{Entries, with_entry}
+use Rattle.nc_state.specs.Standing.{AreNames, Entries, IsHealed, Stands, with_entry}
 use Rattle.nc_state.specs.Vaults.{BeginsMaking, ChangesOnlyName, IsVault, Vault, version_in}
 use Rattle.nc_state.specs.Versions.{Version}
+use Rattle.nc_state.specs.Versions.Version.{Never}
 use Rattle.nc_state.specs.Weighing.{after, settled, some_holds, weigh}
 use Rattle.nc_state.proofs.Keeping.{names_name, untouched_stays}
-use Rattle.nc_words.specs.Acts.{Task}
+use Rattle.nc_state.proofs.VaultLaws.{healed_stands, unlisted_rests}
+use Rattle.nc_words.specs.declared.act.Act.{Act}
+use Rattle.nc_words.specs.declared.act.Act.TheVariants as act
+use Rattle.nc_words.specs.Acts.{FitsWidth, Task}
 use Rattle.nc_vault.specs.Makings.{Brings, Makes}
-use Rattle.nc_vault.specs.Vaults.{DoesName, HasReached, IsDoneWith, IsUnderWay, IsUntouched, StandsBegunAt, StandsDone, StandsFinished, WorksOn}
+use Rattle.nc_vault.specs.Vaults.{DoesName, HasReached, IsDoneWith, IsUnderWay, IsUntouched, StandsBegunAt, StandsDone, StandsFinished, WorksOn, fills, still_damaged}
 use Rattle.nc_vault.specs.Vaults.Begins.{has_come}
-use Rattle.nc_vault.proofs.Members.{in_none, more_cases, more_in, next_in, next_within, none_past, take_past, take_whole}
+use Rattle.nc_vault.proofs.Members.{among_or_not, in_none, more_cases, more_in, next_in, next_within, none_past, take_past, take_whole}
 
 -- ---- entries with one of them changed
 
@@ -121,7 +129,7 @@ module _ (n : ℕ) (task : Task) (V : Vault) (names : List (List ℕ)) (done : �
   name_untouched : IsUntouched V here name
   name_untouched = at.reached.others name new
 
-  version_is : version_in n here name ≡ version_in n V name
+  pub version_is : version_in n here name ≡ version_in n V name
   version_is = version_same n V here name name_untouched
 
   done_here : (G : Contents) (d : DoesName n task name here G) → IsDoneWith n task V (changed here name (Rest d.version) G) name
@@ -188,24 +196,85 @@ module _ (n : ℕ) (task : Task) (V : Vault) (names : List (List ℕ)) (done : �
         tells = refl;
       }
 
+-- ---- the clouds that are damaged no more
+
+never_right : (n : ℕ) (F : Contents) (name : List ℕ) (c : ℕ) → RightOn n F name Never c
+never_right n F name c (key.Meta other slot) has = absurd has
+never_right n F name c (key.Chunk other slot row) has = absurd has
+
+itself : (i : ℕ) → (i == i) ≡ true
+itself i =
+    elim (eqb_tells i i) [
+      | inl is ↦ is.0
+      | inr differ ↦ absurd (differ.1 refl)
+    ]
+
+-- what a name that is done with is on the clouds that the act fills
+pub record FillsName (n : ℕ) (a : Act) (W : Vault) (name : List ℕ) : Type 0 where
+  pub version : Version
+  pub rests : W.entries name ≡ Rest version
+  pub held : AllHold n W.contents name version
+  pub filled : (c : ℕ) → c < n → fills a c ≡ true → RightOn n W.contents name version c
+
+-- so is each name, where the act is done with all that stood at V
+healed_name : (n i : ℕ) (V W : Vault) (names : List (List ℕ)) → i < n → AreNames n V.contents names → IsVault n V → ((name : List ℕ) → Contains names name → FillsName n (act.Repair i) W name)
+    → ((name : List ℕ) → (Contains names name → ⊥) → IsUntouched V W name) → (name : List ℕ) → IsName name → IsHealed n W.contents i name (W.entries name)
+healed_name n i V W names within listed from done others name is =
+    elim (among_or_not names name) [
+      | inl among ↦
+          let f : FillsName n (act.Repair i) W name = done name among in
+          subst (IsHealed n W.contents i name) (sym f.rests) (f.held i within, f.filled i within (itself i))
+      | inr out ↦
+          let never : W.entries name ≡ Rest Never = (others name out).entry ∙ unlisted_rests n V.contents V.entries V.damaged names name from listed is out in
+          subst (IsHealed n W.contents i name) (sym never) (tt, never_right n W.contents name i)
+    ]
+
+-- and the clouds that the act heals are damaged no more
+still_stands : (n : ℕ) (a : Act) (V W : Vault) (names : List (List ℕ)) → FitsWidth n a → WorksOn n V.contents a names → IsVault n V → IsVault n W → W.damaged ≡ V.damaged
+    → ((name : List ℕ) → Contains names name → FillsName n a W name) → ((name : List ℕ) → (Contains names name → ⊥) → IsUntouched V W name)
+    → Stands n W.contents W.entries (still_damaged a V.damaged)
+still_stands n (act.Repair i) V W names fits works from stands same done others =
+    subst (λ (D : Clouds). Stands n W.contents W.entries (without_cloud D i)) same
+    (healed_stands n i W.contents W.entries W.damaged stands (healed_name n i V W names fits works from done others))
+still_stands n other V W names fits works from stands same done others = subst (Stands n W.contents W.entries) same stands
+
 -- ---- all names are done
 
 module _ (n : ℕ) (task : Task) (V : Vault) (names : List (List ℕ)) (G : Contents) (works : WorksOn n V.contents task.act names) (all : StandsFinished n task V names (length names) G) where
-  all_reached : HasReached n task V all.vault names (length names)
-  all_reached = record {
+  -- the vault that was left, but for the clouds that are damaged
+  abbrev left : Clouds → Vault
+  left D = record { contents = all.vault.contents; entries = all.vault.entries; damaged = D }
+
+  none_else : (name : List ℕ) → (Contains names name → ⊥) → IsUntouched V all.vault name
+  none_else name out = all.reached.others name (λ among. out (subst (λ (ns : List (List ℕ)). Contains ns name) (take_whole names) among))
+
+  done_all : (name : List ℕ) → Contains names name → FillsName n task.act all.vault name
+  done_all name among =
+      let d : IsDoneWith n task V all.vault name = all.reached.finished name (subst (λ (ns : List (List ℕ)). Contains ns name) (sym (take_whole names)) among) in
+      record { version = d.version; rests = d.rests; held = d.held; filled = d.filled }
+
+  all_reached : (D : Clouds) → HasReached n task V (left D) names (length names)
+  all_reached D = record {
     among = omega arith;
-    finished = all.reached.finished;
-    under_way = subst (λ (o : Option (List ℕ)). IfSome o (IsUnderWay n task V all.vault)) (sym (none_past names)) tt;
-    others = λ name out. all.reached.others name (λ among. out (subst (λ (ns : List (List ℕ)). Contains ns name) (take_whole names ∙ sym (take_past names)) among));
+    finished = λ name among.
+        let d : IsDoneWith n task V all.vault name = all.reached.finished name among in
+        record { version = d.version; brought = d.brought; rests = d.rests; held = d.held; filled = d.filled };
+    under_way = subst (λ (o : Option (List ℕ)). IfSome o (IsUnderWay n task V (left D))) (sym (none_past names)) tt;
+    others = λ name out.
+        let u : IsUntouched V all.vault name = none_else name (λ among. out (subst (λ (ns : List (List ℕ)). Contains ns name) (sym (take_past names)) among)) in
+        record { entry = u.entry; objects = u.objects };
   }
 
-  pub names_end : StandsDone n task V G
-  names_end = record {
-    vault = all.vault;
-    contents = all.contents;
-    stands = all.stands;
-    done = record { names = names; works_on = works; reached = all_reached; damaged = all.damaged };
-  }
+  -- the act is done: the clouds that it heals are damaged no more
+  pub names_end : IsVault n V → FitsWidth n task.act → StandsDone n task V G
+  names_end from fits =
+      let D : Clouds = still_damaged task.act V.damaged in
+      record {
+        vault = left D;
+        contents = all.contents;
+        stands = still_stands n task.act V all.vault names fits works from all.stands all.damaged done_all none_else;
+        done = record { names = names; works_on = works; reached = all_reached D; damaged = refl };
+      }
 
   -- done with all names it is begun too
   pub all_begun : StandsBegunAt n task V (length names) G
@@ -215,11 +284,11 @@ module _ (n : ℕ) (task : Task) (V : Vault) (names : List (List ℕ)) (G : Cont
       contents = all.contents;
       stands = all.stands;
       done = length names;
-      begun = has_come (record { names = names; works_on = works; reached = all_reached; damaged = all.damaged });
+      begun = has_come (record { names = names; works_on = works; reached = all_reached all.vault.damaged; damaged = all.damaged });
     };
     tells = refl;
   }
 
 -- an act with no names to work on is done at once
-pub nothing_to_do : (n : ℕ) (task : Task) (V : Vault) → WorksOn n V.contents task.act [] → IsVault n V → StandsDone n task V V.contents
-nothing_to_do n task V works stands = names_end n task V [] V.contents works (names_begin n task V [] stands)
+pub nothing_to_do : (n : ℕ) (task : Task) (V : Vault) → WorksOn n V.contents task.act [] → IsVault n V → FitsWidth n task.act → StandsDone n task V V.contents
+nothing_to_do n task V works stands fits = names_end n task V [] V.contents works (names_begin n task V [] stands) stands fits

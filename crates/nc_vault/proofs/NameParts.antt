@@ -8,7 +8,7 @@ use Rattle.nc_state.specs.Clouds.{Clouds}
 use Rattle.nc_state.specs.Standing.{Entries, Stands}
 use Rattle.nc_state.specs.Vaults.{BeginsMaking, ChangesOnlyName, ForEachVault, IsVault, NothingMade, Vault}
 use Rattle.nc_state.specs.Versions.{Version}
-use Rattle.nc_words.specs.Acts.{Task}
+use Rattle.nc_words.specs.Acts.{FitsWidth, Task}
 use Rattle.nc_vault.specs.Makings.{Makes}
 use Rattle.nc_vault.specs.Parts.{BeginsPart, DoesPart, NamesKept}
 use Rattle.nc_vault.specs.Vaults.{DoesName, StandsBegun, StandsBegunAt, StandsDone, StandsFinished, StandsStopped, TellsDone, WorksOn}
@@ -16,7 +16,7 @@ use Rattle.nc_vault.proofs.Members.{in_none}
 use Rattle.nc_vault.proofs.NameLaws.{all_begun, name_is_begun, name_is_done, names_begin, names_end}
 
 -- what holds of each vault that contents stand for holds of the one that the act has come to
-of_here : {n : ℕ} {task : Task} {V : Vault} {names : List (List ℕ)} {done : ℕ} {F : Contents} (P : Vault → Type 0) (at : StandsFinished n task V names done F) → ForEachVault n F P → P at.vault
+pub of_here : {n : ℕ} {task : Task} {V : Vault} {names : List (List ℕ)} {done : ℕ} {F : Contents} (P : Vault → Type 0) (at : StandsFinished n task V names done F) → ForEachVault n F P → P at.vault
 of_here {n} P at each =
     let W : Vault = at.vault in
     subst (λ (C : Contents). Stands n C W.entries W.damaged → P (record { contents = C; entries = W.entries; damaged = W.damaged })) (sym at.contents)
@@ -64,8 +64,8 @@ module _ {A : Type 0} (F : FleetGhosts A) where
         pub kept_all : Keeps F old mid (StandsBegun n task V)
         kept_all = record { here = (all_begun n task V names (F.held mid) works all_kept).left; stops = kept.stops }
 
-        pub kept_end : StandsDone n task V (F.held mid)
-        kept_end = names_end n task V names (F.held mid) works all_kept
+        pub kept_end : IsVault n V → FitsWidth n task.act → StandsDone n task V (F.held mid)
+        kept_end stands fits = names_end n task V names (F.held mid) works all_kept stands fits
 
       -- the part of the next name leads on to `new`
       module _ {new : A} (name : List ℕ) (next : slice_get names done ≡ Some name) (is_new : Contains (take done names) name → ⊥) (clouds : F.clouds mid ≡ n)
@@ -124,7 +124,7 @@ module _ {A : Type 0} (F : FleetGhosts A) where
         record { left = at.left; tells = subst (TellsDone task.act after) (sym at.tells) tells }
 
     -- and where it is, for the act done
-    pub one_done : DoesName n task name from (F.held new) → StandsDone n task from (F.held new)
-    one_done does =
+    pub one_done : FitsWidth n task.act → DoesName n task name from (F.held new) → StandsDone n task from (F.held new)
+    one_done fits does =
         names_end n task from (name ∷ []) (F.held new) (works (F.held old))
-        (name_is_done n task from (name ∷ []) 0 (F.held old) name refl (in_none name) (names_begin n task from (name ∷ []) stands) (F.held new) does alone.here)
+        (name_is_done n task from (name ∷ []) 0 (F.held old) name refl (in_none name) (names_begin n task from (name ∷ []) stands) (F.held new) does alone.here) stands fits

@@ -29,14 +29,14 @@ use Rattle.nc_write.specs.Tidying.{NoneSlipped}
 use Rattle.nc_write.specs.declared.fault.WriteFault.{WriteFault}
 use Rattle.nc_write.specs.declared.fault.WriteFault.TheVariants as write
 use Rattle.nc_words.specs.declared.act.Act.{Act}
-use Rattle.nc_words.specs.Acts.{Task}
+use Rattle.nc_words.specs.Acts.{FitsWidth, Task}
 use Rattle.nc_words.specs.declared.setting.Setting.{Setting}
 use Rattle.nc_vault.specs.declared.fault.Fault.{Fault}
 use Rattle.nc_vault.specs.declared.fault.Fault.TheVariants as fault
 use Rattle.nc_vault.specs.declared.reply.Reply.{Reply}
 use Rattle.nc_vault.specs.declared.reply.Reply.TheVariants as reply
 use Rattle.nc_vault.specs.Acting.{Acted, Changes, IfDone, IsReplyTo, IsTidied, LeavesTidy, StaysBefore}
-use Rattle.nc_vault.specs.Counting.{CostsBy, CountsSay, NamesCloud, NamesNone, ReadsFor, bears_failures, failing_in, may_read_chunks, rose}
+use Rattle.nc_vault.specs.Counting.{CostsBy, CountsSay, NamesCloud, NamesNone, ReadsFor, TookBy, bears_failures, failing_in, may_read_chunks, rose}
 use Rattle.nc_vault.specs.Faults.{fault_of_settle, fault_of_write}
 use Rattle.nc_vault.specs.Makings.{Brings, Makes}
 use Rattle.nc_vault.specs.Replies.{RepliesWith, StopsFor}
@@ -58,6 +58,8 @@ pub record WritesOne (a : Act) (name : List ℕ) : Type 0 where
   pub changes : (F G : Contents) → ChangesOnlyName name F G → Changes a F G
   pub bears : bears_failures a ≡ false
   pub unread : (answer : Reply) → may_read_chunks a answer ≡ false
+  pub took : (n : ℕ) (answer : Reply) (before now : ℕ → ℕ) → TookBy n a answer before now
+  pub fits : (n : ℕ) → FitsWidth n a
   pub writes : only_reads a ≡ false
   pub only : (n : ℕ) (G : Contents) (names : List (List ℕ)) → WorksOn n G a names → names ≡ name ∷ []
   pub says : (n : ℕ) (task : Task) (F G : Contents) (f : Fault) → WriteRefuses n task.setting name F f → SaysBy n task F G a (reply.Stopped f None)
@@ -71,7 +73,7 @@ unread_by F a old new answer n G writes = record { each = λ S D stands. subst (
 
 -- ---- states
 
-grows_then : (a b c : ℕ → ℕ) → Grows a b → Grows b c → Grows a c
+pub grows_then : (a b c : ℕ → ℕ) → Grows a b → Grows b c → Grows a c
 grows_then a b c first second k = let x = first k in let y = second k in omega (arith, x, y)
 
 module _ {A : Type 0} {F : FleetGhosts A} where
@@ -126,7 +128,7 @@ settle_counts F a old new (settle.Misplaced c x y) bears is = unnamed F a old ne
 settle_counts F a old new (settle.Conflict g x y) bears is = unnamed F a old new (bears_failures a) bears is
 settle_counts F a old new settle.Memory bears is = tt
 
-settle_refuses : (n : ℕ) (s : Setting) (name : List ℕ) (G : Contents) (f : SettleFault) → SettleRefuses n name G f → WriteRefuses n s name G (fault_of_settle f)
+pub settle_refuses : (n : ℕ) (s : Setting) (name : List ℕ) (G : Contents) (f : SettleFault) → SettleRefuses n name G f → WriteRefuses n s name G (fault_of_settle f)
 settle_refuses n s name G (settle.Cloud c) is = tt
 settle_refuses n s name G (settle.Misplaced c x y) is = is
 settle_refuses n s name G (settle.Conflict g x y) is = is
@@ -215,6 +217,7 @@ module _ {A : Type 0} (F : FleetGhosts A) (task : Task) (name : List ℕ) (one :
     kind = one.stopped f;
     counts = counts;
     costs = costs_by (may_read_chunks task.act (reply.Stopped f None)) (F.chunk_gets old) (F.chunk_gets new) (one.unread (reply.Stopped f None)) u.proceeds.gets;
+    took = one.took n (reply.Stopped f None) (F.chunk_gets old) (F.chunk_gets new);
     before = before;
     only = λ told. keeps_by (Changes task.act (F.held old)) (u.alone told) (λ G only. one.changes (F.held old) G only);
     says = λ told. one.says n task (F.held old) (F.held new) f (refuses told);
@@ -369,6 +372,7 @@ module _ {A : Type 0} (F : FleetGhosts A) (task : Task) (name : List ℕ) (one :
             kind = kind;
             counts = counts (unnamed F task.act old new (bears_failures task.act) one.bears all_clean);
             costs = costs_by (may_read_chunks task.act answer) (F.chunk_gets old) (F.chunk_gets new) (one.unread answer) until_tidied.proceeds.gets;
+            took = one.took n answer (F.chunk_gets old) (F.chunk_gets new);
             before = before;
             only = λ told. keeps_by (Changes task.act (F.held old)) (until_tidied.alone told) (λ G only. one.changes (F.held old) G only);
             says = says;
@@ -377,7 +381,7 @@ module _ {A : Type 0} (F : FleetGhosts A) (task : Task) (name : List ℕ) (one :
             stands = λ told. record {
               each = λ S D stands. record {
                 stops = one_stops F n task name (one.works n) (until_tidied.alone told) S D stands (until_tidied.begins told S D stands);
-                end = ends (vault_of (F.held old) S D) (one_done F n task name (one.works n) (until_tidied.alone told) S D stands (does_name told S D stands));
+                end = ends (vault_of (F.held old) S D) (one_done F n task name (one.works n) (until_tidied.alone told) S D stands (one.fits n) (does_name told S D stands));
               };
             };
             replies = λ told. record { each = λ S D stands. replies (vault_of (F.held old) S D) ((s.comes told).each S D stands).is_top };

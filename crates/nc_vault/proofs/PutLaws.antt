@@ -58,6 +58,8 @@ module _ (s : Setting) (name v : List ℕ) where
     changes = λ F G only. only;
     bears = refl;
     unread = λ answer. refl;
+    took = λ n answer before now. tt;
+    fits = λ n. tt;
     writes = refl;
     only = λ n G names works. works;
     says = λ n task F G f refuses. refuses;
@@ -105,6 +107,7 @@ module _ (s : Setting) (name v : List ℕ) where
       put_refused (fault.Spent tried) why = put_spent tried why
       put_refused fault.NoFile why = absurd why
       put_refused (fault.Cloud c) why = absurd why
+      put_refused (fault.Damaged c r how) why = absurd why
       put_refused (fault.Short list) why = absurd why
       put_refused (fault.Conflict g a b) why = absurd why
       put_refused (fault.Misplaced c a b) why = absurd why

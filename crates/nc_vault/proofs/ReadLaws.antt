@@ -13,7 +13,7 @@ use Rattle.nc_vault.specs.declared.fault.Fault.{Fault}
 use Rattle.nc_vault.specs.declared.reply.Reply.{Reply}
 use Rattle.nc_vault.specs.declared.reply.Reply.TheVariants as reply
 use Rattle.nc_vault.specs.Acting.{Changes}
-use Rattle.nc_vault.specs.Vaults.{ActKeeps, StandsAtEnd, StandsBegun, StandsDone, TellsDone, WorksOn}
+use Rattle.nc_vault.specs.Vaults.{ActKeeps, StandsAtEnd, StandsBegun, StandsDone, TellsDone, WorksOn, still_damaged}
 use Rattle.nc_vault.specs.Vaults.Begins.{not_yet}
 use Rattle.nc_vault.proofs.Members.{in_none}
 
@@ -21,6 +21,7 @@ use Rattle.nc_vault.proofs.Members.{in_none}
 pub record OnlyReads (a : Act) : Type 0 where
   pub works : (n : ℕ) (G : Contents) → WorksOn n G a []
   pub changes : (F G : Contents) → G ≡ F → Changes a F G
+  pub damaged : (D : Clouds) → D ≡ still_damaged a D
 
 module _ {A : Type 0} (F : FleetGhosts A) (task : Task) (reads : OnlyReads task.act) {old new : A} (held : F.held new ≡ F.held old) (stops : Stops F old new (λ G. G ≡ F.held old)) where
   abbrev vault_at : Entries → Clouds → Vault
@@ -57,7 +58,7 @@ module _ {A : Type 0} (F : FleetGhosts A) (task : Task) (reads : OnlyReads task.
         under_way = tt;
         others = λ name not. record { entry = refl; objects = λ c place is. refl };
       };
-      damaged = refl;
+      damaged = reads.damaged D;
     };
   }
 

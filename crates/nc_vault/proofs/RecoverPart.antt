@@ -1,5 +1,5 @@
--- What recovery does with one name: it settles and tidies it.
-use Rattle.std.proofs.Common.{◌≡◌, ℕ, true, false, Option, None, List, inl, refl, sym, subst}
+-- The parts of recovery on one name: it settles and tidies it.
+use Rattle.std.proofs.Common.{◌≡◌, ℕ, true, false, Option, None, List, inl, inr, refl, sym, subst}
 use Rattle.nc_name.specs.Names.{IsName}
 use Rattle.nc_meta.specs.declared.meta.Meta.{Meta}
 use Rattle.nc_cloud.specs.Stopping.{Keeps}
@@ -8,15 +8,21 @@ use Rattle.nc_cloud.proofs.Time.{keeps_by, keeps_then}
 use Rattle.nc_state.specs.Clouds.{Clouds}
 use Rattle.nc_state.specs.Commands.{RestsAt}
 use Rattle.nc_state.specs.Standing.{Entries, Stands}
-use Rattle.nc_state.specs.Vaults.{BeginsMaking, ChangesOnlyName, ComesTo, Vault, version_in}
+use Rattle.nc_state.specs.Vaults.{BeginsMaking, ChangesOnlyName, ComesTo, IsVault, Vault, version_in}
 use Rattle.nc_state.specs.Versions.{Version}
 use Rattle.nc_state.proofs.Alone.{alone_then}
 use Rattle.nc_state.proofs.CommandLaws.{rests_after}
+use Rattle.nc_state.proofs.MisplacedLaw.{none_misplaced}
+use Rattle.nc_state.proofs.TopLaws.{none_disputed}
+use Rattle.nc_settle.specs.declared.settled.SettleFault.{SettleFault}
+use Rattle.nc_settle.specs.declared.settled.SettleFault.TheVariants as settle
+use Rattle.nc_settle.specs.Settling.{HasSettleCause, IsSeenFault, SettleRefuses}
 use Rattle.nc_words.specs.declared.act.Act.{Act}
 use Rattle.nc_words.specs.declared.act.Act.TheVariants as act
 use Rattle.nc_words.specs.Acts.{Task}
 use Rattle.nc_vault.specs.Makings.{BringsBy, Makes}
-use Rattle.nc_vault.specs.Parts.{BeginsPart, DoesPart}
+use Rattle.nc_vault.specs.Faults.{fault_of_settle}
+use Rattle.nc_vault.specs.Parts.{BeginsPart, DoesPart, IsSeenCause, PartCounts, PartStops}
 use Rattle.nc_vault.specs.Vaults.{fills}
 use Rattle.nc_vault.specs.Writing.{IsSettled, Proceeds, Settles, Tidies}
 use Rattle.nc_vault.proofs.NameParts.{made_nothing}
@@ -27,6 +33,36 @@ brings_same n task name x a is = subst (λ (b : Act). BringsBy n task b name x x
 
 fills_none : (a : Act) (c : ℕ) → a ≡ act.Recover → fills a c ≡ true → ⊥
 fills_none a c is fill = let e : fills act.Recover c ≡ true = subst (λ (b : Act). fills b c ≡ true) is fill in let f : false ≡ true = e in absurd cc
+
+-- ---- a name that can't be settled
+
+pub seen_fault : (f : SettleFault) → IsSeenCause (fault_of_settle f) → IsSeenFault f
+seen_fault (settle.Cloud c) seen = seen
+seen_fault (settle.Misplaced c a b) seen = seen
+seen_fault (settle.Conflict g a b) seen = seen
+seen_fault settle.Memory seen = seen
+
+pub settle_counts : (exact : Type 0) (before now : ℕ → ℕ) (f : SettleFault) → HasSettleCause exact before now f → PartCounts exact before now (fault_of_settle f)
+settle_counts exact before now (settle.Cloud c) cause = cause
+settle_counts exact before now (settle.Misplaced c a b) cause = cause
+settle_counts exact before now (settle.Conflict g a b) cause = cause
+settle_counts exact before now settle.Memory cause = tt
+
+-- on contents that stand nothing is misplaced or disputed
+pub settle_stops : (n : ℕ) (task : Task) (name : List ℕ) (V : Vault) (f : SettleFault) → IsName name → IsVault n V → SettleRefuses n name V.contents f → PartStops n task name (fault_of_settle f) V
+settle_stops n task name V (settle.Cloud c) is stands refuses = tt
+settle_stops n task name V (settle.Misplaced c a b) is stands refuses =
+    let at = refuses.here in
+    let other = at.is_of_elsewhere in
+    let here = none_misplaced n V.contents V.entries V.damaged name c refuses.slot a b at.bytes other.key other.payload is stands refuses.in_width at.stands other.is_sealed in
+    elim other.elsewhere [
+      | inl cloud ↦ cloud here.0
+      | inr width ↦ width here.1
+    ]
+settle_stops n task name V (settle.Conflict g a b) is stands refuses = none_disputed n V.contents V.entries V.damaged name g a b is stands refuses.1
+settle_stops n task name V settle.Memory is stands refuses = tt
+
+-- ---- settled, and then tidied
 
 module _ {A : Type 0} (F : FleetGhosts A) (task : Task) (name : List ℕ) {old mid : A} where
   -- stopped in settling, or once it is done

@@ -50,6 +50,8 @@ module _ (s : Setting) (name v : List ℕ) where
     changes = λ F G only. only;
     bears = refl;
     unread = λ answer. refl;
+    took = λ n answer before now. tt;
+    fits = λ n. tt;
     writes = refl;
     only = λ n G names works. works;
     says = λ n task F G f refuses. refuses;

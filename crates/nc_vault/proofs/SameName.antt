@@ -2,12 +2,21 @@
 use Rattle.std.proofs.Common.{◌<◌, ℕ, Option, None, Some, List, IfSome, refl, sym, ◌∙◌, arith}
 use Rattle.nc_name.specs.declared.key.Key.TheVariants as key
 use Rattle.nc_meta.specs.declared.meta.Meta.{Meta}
+use Rattle.nc_meta.specs.declared.meta.Meta.TheVariants as meta
 use Rattle.nc_cloud.specs.Contents.{Contents}
 use Rattle.nc_state.specs.ChunkLaws.{SameAt}
-use Rattle.nc_state.specs.Holding.{Holds, IsDisputed, IsSettledOn, IsTopOrNone, Undisputed, meta_key}
+use Rattle.nc_state.specs.Holding.{Holds, IsDisputed, IsSettledOn, IsTop, IsTopOrNone, Undisputed, meta_key}
 use Rattle.nc_state.specs.Tidy.{IsTidy}
+use Rattle.nc_repair.specs.Mending.{mended_by}
 use Rattle.nc_settle.specs.Elsewhere.{IsMisplacedAt, LeastMisplaced, NothingMisplaced}
-use Rattle.nc_vault.specs.Saying.{IsAgreedTop}
+use Rattle.nc_words.specs.declared.act.Act.{Act}
+use Rattle.nc_words.specs.declared.act.Act.TheVariants as act
+use Rattle.nc_words.specs.declared.setting.Setting.{Setting}
+use Rattle.nc_vault.specs.declared.fault.Fault.{Fault}
+use Rattle.nc_vault.specs.declared.fault.Fault.TheVariants as fault
+use Rattle.nc_vault.specs.Acting.{IsTidied}
+use Rattle.nc_vault.specs.Saying.{DrawsRepair, IsAgreedTop, IsSettledFrom, LeavesName, NameRefuses, RepairRefuses, RepairsName, WriteRefuses}
+use Rattle.nc_vault.specs.Saying.RepairsName.{mends, passes}
 
 module _ (n : ℕ) (F G : Contents) (name : List ℕ) (same : SameAt n F G name) where
   holds_there : (c : ℕ) (m : Meta) → c < n → Holds n F name c m → Holds n G name c m
@@ -35,9 +44,12 @@ module _ (n : ℕ) (F G : Contents) (name : List ℕ) (same : SameAt n F G name)
     before = λ d s x y l pair at. is.before d s x y l pair (let within = is.in_width in misplaced_back d s x y (omega (arith, l, within)) at);
   }
 
+  highest_there : (m : Meta) → IsTop n F name m → IsTop n G name m
+  highest_there m is = record { cloud = is.cloud; in_width = is.in_width; held = holds_there is.cloud m is.in_width is.held; highest = λ c k l h. is.highest c k l (holds_back c k l h) }
+
   pub top_there : (top : Option Meta) → IsTopOrNone n F name top → IsTopOrNone n G name top
   top_there None is = record { none = λ c m l h. is.none c m l (holds_back c m l h) }
-  top_there (Some m) is = record { cloud = is.cloud; in_width = is.in_width; held = holds_there is.cloud m is.in_width is.held; highest = λ c k l h. is.highest c k l (holds_back c k l h) }
+  top_there (Some m) is = highest_there m is
 
   undisputed_there : (top : Option Meta) → IfSome top (Undisputed n F name) → IfSome top (Undisputed n G name)
   undisputed_there None is = tt
@@ -68,3 +80,93 @@ module _ (n : ℕ) (F G : Contents) (name : List ℕ) (same : SameAt n F G name)
 
   pub tidy_there : (top : Option Meta) → IsTidy n F name top → IsTidy n G name top
   tidy_there top is = record { all = λ c place bytes l of slots at. is.all c place bytes l of slots (sym (same c place l of) ∙ at) }
+
+  pub tidied_there : IsTidied n F name → IsTidied n G name
+  tidied_there is = record { top = is.top; settled = settled_there is.top is.settled; tidy = tidy_there is.top is.tidy }
+
+  -- ---- an act that came to the name at F, or to the same objects at G
+
+  write_refuses_there : (s : Setting) (f : Fault) → WriteRefuses n s name F f → WriteRefuses n s name G f
+  write_refuses_there s fault.NoFile is = record { top = is.top; agreed = agreed_there is.top is.agreed; not_live = is.not_live }
+  write_refuses_there s (fault.Cloud c) is = tt
+  write_refuses_there s (fault.Damaged c r how) is = is
+  write_refuses_there s (fault.Short bads) is = is
+  write_refuses_there s (fault.Conflict g a b) is = (nothing_misplaced_there is.0, disputed_there g a b is.1)
+  write_refuses_there s (fault.Misplaced c a b) is = least_misplaced_there c a b is
+  write_refuses_there s (fault.Unsound a b) is = is
+  write_refuses_there s fault.Worn is = record { meta = is.meta; top = highest_there is.meta is.top; last = is.last }
+  write_refuses_there s (fault.Spent tried) is = record { all = is.all; top = is.top; is_top = top_there is.top is.is_top; has_next = is.has_next; none = is.none }
+  write_refuses_there s fault.Memory is = tt
+
+  -- what was drawn for a repair
+  abbrev draws_there : (s : Setting) (i : ℕ) → DrawsRepair n s i name F → DrawsRepair n s i name G
+  draws_there s i d = record {
+    old = d.old;
+    agreed = agreed_there (Some (meta.Live d.old)) d.agreed;
+    index = d.index;
+    plan = d.plan;
+    good = d.good;
+    drawn = d.drawn;
+  }
+
+  module _ (s : Setting) (i : ℕ) (H : Contents) where
+    repair_refuses_there : (f : Fault) → RepairRefuses n s i name F H f → RepairRefuses n s i name G H f
+    repair_refuses_there fault.NoFile is = is
+    repair_refuses_there (fault.Cloud c) is = tt
+    repair_refuses_there (fault.Damaged c r how) is = record { draws = draws_there s i is.draws; here = is.here }
+    repair_refuses_there (fault.Short bads) is = is
+    repair_refuses_there (fault.Conflict g a b) is = (nothing_misplaced_there is.0, disputed_there g a b is.1)
+    repair_refuses_there (fault.Misplaced c a b) is = least_misplaced_there c a b is
+    repair_refuses_there (fault.Unsound a b) is = is
+    repair_refuses_there fault.Worn is = record { old = is.old; top = highest_there (meta.Live is.old) is.top; last = is.last }
+    repair_refuses_there (fault.Spent tried) is = record { all = is.all; old = is.old; top = highest_there (meta.Live is.old) is.top; has_next = is.has_next; none = is.none }
+    repair_refuses_there fault.Memory is = tt
+
+    repairs_from : RepairsName n s i name F H → RepairsName n s i name G H
+    repairs_from (mends is) = mends (record { draws = draws_there s i is.draws; is_good = is.is_good; zero = is.zero; one = is.one; held = is.held })
+    repairs_from (passes is) = passes (record { top = is.top; agreed = agreed_there is.top is.agreed; not_live = is.not_live; settled = is.settled })
+
+    -- the same, where F and G are what it left
+    repairs_to : RepairsName n s i name H F → RepairsName n s i name H G
+    repairs_to (mends is) = mends (record {
+      draws = is.draws;
+      is_good = is.is_good;
+      zero = is.zero;
+      one = is.one;
+      held = λ c l. holds_there c (meta.Live (mended_by i is.draws.old is.draws.good is.zero is.one)) l (is.held c l);
+    })
+    repairs_to (passes is) = passes (record { top = is.top; agreed = is.agreed; not_live = is.not_live; settled = settled_there is.top is.settled })
+
+  module _ (H : Contents) where
+    settles_from : IsSettledFrom n name F H → IsSettledFrom n name G H
+    settles_from is = record { top = is.top; agreed = agreed_there is.top is.agreed; settled = is.settled }
+
+    settles_to : IsSettledFrom n name H F → IsSettledFrom n name H G
+    settles_to is = record { top = is.top; agreed = is.agreed; settled = settled_there is.top is.settled }
+
+  pub leaves_from : (s : Setting) (a : Act) (H : Contents) → LeavesName n s a name F H → LeavesName n s a name G H
+  leaves_from s (act.Put own) H = settles_from H
+  leaves_from s (act.Get own) H = settles_from H
+  leaves_from s (act.Remove own) H = settles_from H
+  leaves_from s act.List H = settles_from H
+  leaves_from s (act.Stat own) H = settles_from H
+  leaves_from s (act.Repair i) H = repairs_from s i H
+  leaves_from s act.Recover H = settles_from H
+
+  pub leaves_to : (s : Setting) (a : Act) (H : Contents) → LeavesName n s a name H F → LeavesName n s a name H G
+  leaves_to s (act.Put own) H = settles_to H
+  leaves_to s (act.Get own) H = settles_to H
+  leaves_to s (act.Remove own) H = settles_to H
+  leaves_to s act.List H = settles_to H
+  leaves_to s (act.Stat own) H = settles_to H
+  leaves_to s (act.Repair i) H = repairs_to s i H
+  leaves_to s act.Recover H = settles_to H
+
+  pub refuses_from : (s : Setting) (a : Act) (H : Contents) (f : Fault) → NameRefuses n s a name F H f → NameRefuses n s a name G H f
+  refuses_from s (act.Put own) H f = write_refuses_there s f
+  refuses_from s (act.Get own) H f = write_refuses_there s f
+  refuses_from s (act.Remove own) H f = write_refuses_there s f
+  refuses_from s act.List H f = write_refuses_there s f
+  refuses_from s (act.Stat own) H f = write_refuses_there s f
+  refuses_from s (act.Repair i) H f = repair_refuses_there s i H f
+  refuses_from s act.Recover H f = write_refuses_there s f

@@ -37,7 +37,7 @@ module _ {A : Type 0} (F : FleetGhosts A) (s : Setting) (name bytes : List ℕ) 
   failing = failing_in F (act.Stat name) old new
 
   reads : OnlyReads (act.Stat name)
-  reads = record { works = λ n G. refl; changes = λ G H is. is }
+  reads = record { works = λ n G. refl; changes = λ G H is. is; damaged = λ D. refl }
 
   risen : HasRisen F old new failing
   risen = record { each = λ c within is. rose_is (F.faults old c) (F.faults new c) false is }
@@ -62,6 +62,7 @@ module _ {A : Type 0} (F : FleetGhosts A) (s : Setting) (name bytes : List ℕ) 
     kind = tt;
     counts = few_failed F (act.Stat name) refl old new name finds finds.shown.few;
     costs = gets;
+    took = tt;
     before = tt;
     only = λ told. reads_only F task reads looked.held stops;
     says = λ told. tt;
@@ -115,6 +116,7 @@ module _ {A : Type 0} (F : FleetGhosts A) (s : Setting) (name bytes : List ℕ) 
     kind = refl;
     counts = refused_counts f finds;
     costs = refused_costs f;
+    took = tt;
     before = get_before (F.held old) (F.held new) f looked.held;
     only = λ told. reads_only F task reads looked.held stops;
     says = λ told. tt;

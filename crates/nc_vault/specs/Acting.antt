@@ -15,7 +15,7 @@ use Rattle.nc_vault.specs.declared.fault.Fault.{Fault}
 use Rattle.nc_vault.specs.declared.fault.Fault.TheVariants as fault
 use Rattle.nc_vault.specs.declared.reply.Reply.{Reply}
 use Rattle.nc_vault.specs.declared.reply.Reply.TheVariants as reply
-use Rattle.nc_vault.specs.Counting.{CostsBy, CountsGrow, CountsSay, ReadsFor, may_read_chunks}
+use Rattle.nc_vault.specs.Counting.{CostsBy, CountsGrow, CountsSay, ReadsFor, TookBy, may_read_chunks}
 use Rattle.nc_vault.specs.Replies.{RepliesTo}
 use Rattle.nc_vault.specs.Saying.{Says}
 use Rattle.nc_vault.specs.Seeing.{SeesFor, only_reads}
@@ -25,6 +25,8 @@ use Rattle.nc_vault.specs.Vaults.{ActKeeps, WorksOn}
 abbrev pub TellsHowMany : Act → Option ℕ → Type 0
 TellsHowMany act.List (Some after) = Unit {0}
 TellsHowMany act.List None = ⊥
+TellsHowMany (act.Repair i) (Some after) = Unit {0}
+TellsHowMany (act.Repair i) None = ⊥
 TellsHowMany act.Recover (Some after) = Unit {0}
 TellsHowMany act.Recover None = ⊥
 TellsHowMany other after = after ≡ None
@@ -37,6 +39,7 @@ IsReplyTo (act.Get name) (reply.Bytes v) = Unit {0}
 IsReplyTo (act.Remove name) (reply.Removed generation) = Unit {0}
 IsReplyTo (act.Stat name) (reply.About generation len witnessed) = Unit {0}
 IsReplyTo act.List (reply.Listing rows) = Unit {0}
+IsReplyTo (act.Repair i) (reply.Repaired files) = Unit {0}
 IsReplyTo act.Recover (reply.Settled names) = Unit {0}
 IsReplyTo a other = ⊥
 
@@ -44,6 +47,7 @@ IsReplyTo a other = ⊥
 abbrev pub Changes : Act → Contents → Contents → Type 0
 Changes (act.Put name) F G = ChangesOnlyName name F G
 Changes (act.Remove name) F G = ChangesOnlyName name F G
+Changes (act.Repair i) F G = Unit {0}
 Changes act.Recover F G = Unit {0}
 Changes other F G = G ≡ F
 
@@ -81,6 +85,7 @@ pub record Acted {A : Type 0} (F : FleetGhosts A) (task : Task) (old new : A) (a
   pub kind : IsReplyTo task.act answer
   pub counts : CountsSay F task.act old new answer
   pub costs : CostsBy (may_read_chunks task.act answer) (F.chunk_gets old) (F.chunk_gets new)
+  pub took : TookBy (F.clouds old) task.act answer (F.chunk_gets old) (F.chunk_gets new)
   pub before : StaysBefore (F.held old) (F.held new) answer
   pub only : F.tells → Keeps F old new (Changes task.act (F.held old))
   pub says : F.tells → Says F task old new answer

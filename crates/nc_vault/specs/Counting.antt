@@ -1,7 +1,8 @@
 -- What the clouds' counts say of an act.
-use Rattle.std.specs.Prelude.{ℕ, ◌≡◌, ◌⊎◌, ◌<◌, ◌≤◌, ◌==◌, ◌+◌, ◌-◌, ◌^◌, ◌&&◌, ◌||◌, Bool, true, false, not, Option, Some, min, nat_le}
+use Rattle.std.specs.Prelude.{ℕ, ◌≡◌, ◌⊎◌, ◌<◌, ◌≤◌, ◌==◌, ◌+◌, ◌-◌, ◌^◌, ◌&&◌, ◌||◌, if◌then◌else◌, Bool, true, false, not, Option, Some, min, nat_le}
 use Rattle.nc_name.specs.Counts.{Rose}
 use Rattle.nc_cloud.specs.Contents.{Grows}
+use Rattle.nc_cloud.specs.Fleet.{got_count}
 use Rattle.nc_cloud.specs.declared.fleet.Fleet.{Ghosts as FleetGhosts}
 use Rattle.nc_state.specs.Clouds.{Clouds, count_of}
 use Rattle.nc_state.specs.Vaults.{Vault}
@@ -23,6 +24,7 @@ moved before now = not (now == before)
 -- the acts that list what each cloud holds
 abbrev pub lists : Act → Bool
 lists act.List = true
+lists (act.Repair i) = true
 lists act.Recover = true
 lists other = false
 
@@ -81,11 +83,12 @@ NamesNone true F a old new = F.counts_exactly → count_of (F.clouds old) (faile
 NamesNone false F a old new = F.counts_exactly → StayCounts (F.clouds old) (F.faults old) (F.faults new)
 
 -- A cloud is named only where its count rose, and it is the least; and where one failed, or three, one is named. Where too few clouds
--- are good, those that failed are listed.
+-- are good, those that failed are listed. A survivor whose chunk isn't good didn't fail, nor did a lower cloud.
 abbrev pub CountsSay : {A : Type 0} → FleetGhosts A → Act → A → A → Reply → Type 0
 CountsSay F a old new (reply.Stopped (fault.Cloud c) after) = NamesCloud (bears_failures a) F a old new c after
 CountsSay F a old new (reply.Stopped (fault.Short bads) after) = Unit {0}
 CountsSay F a old new (reply.Stopped fault.Memory after) = Unit {0}
+CountsSay F a old new (reply.Stopped (fault.Damaged c r how) after) = F.counts_exactly → (d : ℕ) → d ≤ c → F.faults new d ≡ F.faults old d
 CountsSay F a old new other = NamesNone (bears_failures a) F a old new
 
 -- no count fell
@@ -93,16 +96,31 @@ pub record CountsGrow {A : Type 0} (F : FleetGhosts A) (old new : A) : Type 0 wh
   pub faults : Grows (F.faults old) (F.faults new)
   pub slips : Grows (F.slips old) (F.slips new)
 
--- The acts but get read no chunk; nor does a get that the metadata refuses.
+-- The acts but get and repair read no chunk; nor does a get that the metadata refuses.
 abbrev pub may_read_chunks : Act → Reply → Bool
 may_read_chunks (act.Get name) (reply.Bytes v) = true
 may_read_chunks (act.Get name) (reply.Stopped (fault.Short bads) after) = true
 may_read_chunks (act.Get name) (reply.Stopped fault.Memory after) = true
+may_read_chunks (act.Repair i) answer = true
 may_read_chunks a other = false
 
 abbrev pub CostsBy : Bool → (ℕ → ℕ) → (ℕ → ℕ) → Type 0
 CostsBy true before now = Unit {0}
 CostsBy false before now = (c : ℕ) → now c ≡ before c
+
+-- how many chunks of so many files an act on all names reads from cloud c: a repair one of each, but none from the repaired cloud
+abbrev pub chunks_from : Act → ℕ → ℕ → ℕ
+chunks_from (act.Repair i) files c = if c == i then 0 else files
+chunks_from other files c = 0
+
+-- cloud by cloud, so many chunks were read
+abbrev pub TookFrom : ℕ → (ℕ → ℕ) → (ℕ → ℕ) → (ℕ → ℕ) → Type 0
+TookFrom n before now more = (c : ℕ) → c < n → now c ≡ got_count (before c) (more c)
+
+-- a repair that is done took one of the two chunks that each other cloud holds of each file, and none from the repaired cloud
+abbrev pub TookBy : ℕ → Act → Reply → (ℕ → ℕ) → (ℕ → ℕ) → Type 0
+TookBy n (act.Repair i) (reply.Repaired files) before now = TookFrom n before now (chunks_from (act.Repair i) files)
+TookBy n a answer before now = Unit {0}
 
 -- What an act reads of chunks on clouds that stand: of a file that it gives, both chunks of the first n - 2 clouds and none of the
 -- others, where none is damaged and none failed.

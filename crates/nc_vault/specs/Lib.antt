@@ -5,10 +5,11 @@ pub mod Faults
 pub mod Listing
 pub mod Makings
 pub mod Parts
-pub mod Recovering
+pub mod Repairing
 pub mod Replies
 pub mod Saying
 pub mod Seeing
 pub mod Showing
+pub mod Sweeping
 pub mod Vaults
 pub mod Writing

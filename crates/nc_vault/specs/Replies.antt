@@ -1,15 +1,15 @@
 -- How an act is answered on contents that stand.
-use Rattle.std.specs.Prelude.{ℕ, ◌≡◌, ◌+◌, Bool, true, false, List, length, Contains}
+use Rattle.std.specs.Prelude.{ℕ, ◌≡◌, ◌<◌, ◌+◌, if◌then◌else◌, Bool, true, false, List, [], ◌∷◌, length, Contains}
 use Rattle.nc_cloud.specs.Contents.{Contents}
 use Rattle.nc_cloud.specs.declared.fleet.Fleet.{Ghosts as FleetGhosts}
 use Rattle.nc_state.specs.Clouds.{Clouds}
 use Rattle.nc_state.specs.Showing.{AreBearable}
 use Rattle.nc_state.specs.Standing.{AreNames}
 use Rattle.nc_state.specs.Vaults.{Vault, version_in}
-use Rattle.nc_state.specs.Versions.{version_generation}
+use Rattle.nc_state.specs.Versions.{is_stored, version_generation}
 use Rattle.nc_words.specs.declared.act.Act.{Act}
 use Rattle.nc_words.specs.declared.act.Act.TheVariants as act
-use Rattle.nc_words.specs.Acts.{Task}
+use Rattle.nc_words.specs.Acts.{Task, heals}
 use Rattle.nc_vault.specs.declared.fault.Fault.{Fault}
 use Rattle.nc_vault.specs.declared.fault.Fault.TheVariants as fault
 use Rattle.nc_vault.specs.declared.reply.Reply.{Reply}
@@ -25,6 +25,17 @@ pub record CountsNames (n : ℕ) (F : Contents) (number : ℕ) : Type 0 where
   pub are_names : AreNames n F names
   pub is : number ≡ length names
 
+-- how many of these names have a file
+abbrev pub file_count : ℕ → Vault → List (List ℕ) → ℕ
+file_count n V [] = 0
+file_count n V (name ∷ names) = (if is_stored (version_in n V name) then 1 else 0) + file_count n V names
+
+-- the number of all files
+pub record CountsFiles (n : ℕ) (V : Vault) (number : ℕ) : Type 0 where
+  pub names : List (List ℕ)
+  pub are_names : AreNames n V.contents names
+  pub is : number ≡ file_count n V names
+
 -- the reply of an act that is done
 abbrev pub RepliesBy : ℕ → Vault → Clouds → Act → Reply → Type 0
 RepliesBy n V X (act.Put name) (reply.Stored generation) = generation ≡ version_generation (version_in n V name) + 1
@@ -32,6 +43,7 @@ RepliesBy n V X (act.Remove name) (reply.Removed generation) = generation ≡ ve
 RepliesBy n V X (act.Get name) (reply.Bytes v) = AreBearable n V.damaged X → ReadsFile n V X name v
 RepliesBy n V X (act.Stat name) (reply.About generation len witnessed) = AreBearable n V.damaged X → ReadsAbout n V X name generation len witnessed
 RepliesBy n V X act.List (reply.Listing rows) = AreBearable n V.damaged X → ReadsList n V X rows
+RepliesBy n V X (act.Repair i) (reply.Repaired files) = CountsFiles n V files
 RepliesBy n V X act.Recover (reply.Settled names) = CountsNames n V.contents names
 RepliesBy n V X a other = ⊥
 
@@ -48,6 +60,17 @@ FindsNoFile n task V X (act.Get name) = AreBearable n V.damaged X → ReadsNone 
 FindsNoFile n task V X (act.Stat name) = AreBearable n V.damaged X → ReadsNone n V X name
 FindsNoFile n task V X other = IsPrevented n task V fault.NoFile
 
+-- a damaged cloud that the act doesn't make whole
+pub record IsAnotherDamaged (n : ℕ) (a : Act) (D : Clouds) (c : ℕ) : Type 0 where
+  pub in_width : c < n
+  pub damaged : D c ≡ true
+  pub other : heals a c ≡ false
+
+-- a repair may find one, on which the chunk that it needs isn't good
+abbrev pub FindsDamaged : ℕ → Act → Clouds → ℕ → Type 0
+FindsDamaged n (act.Repair i) D c = IsAnotherDamaged n (act.Repair i) D c
+FindsDamaged n other D c = ⊥
+
 -- what can't be, while no more clouds are damaged or failing than the act bears
 abbrev pub CannotBe : ℕ → Vault → Clouds → Bool → Type 0
 CannotBe n V X true = AreBearable n V.damaged X → ⊥
@@ -63,6 +86,7 @@ StopsFor n task V X fault.Worn = IsPrevented n task V fault.Worn
 StopsFor n task V X (fault.Conflict generation a b) = CannotBe n V X (bears_failures task.act)
 StopsFor n task V X (fault.Misplaced c a w) = ⊥
 StopsFor n task V X (fault.Unsound a b) = CannotBe n V X (bears_failures task.act)
+StopsFor n task V X (fault.Damaged c r how) = FindsDamaged n task.act V.damaged c
 StopsFor n task V X fault.Memory = Unit {0}
 
 -- the reply of a task that began at V, while the clouds of X failed

@@ -1,14 +1,21 @@
 -- How an act is answered on any contents, by what the clouds held.
-use Rattle.std.specs.Prelude.{ℕ, ◌≡◌, ◌<◌, ◌+◌, ◌-◌, ◌^◌, Option, List, length, Contains, IfSome}
+use Rattle.std.specs.Prelude.{ℕ, ◌≡◌, ◌<◌, ◌≤◌, ◌+◌, ◌-◌, ◌^◌, Option, Some, List, length, slice_get, Contains, IfSome}
+use Rattle.nc_code.specs.Good.{IsGood}
+use Rattle.nc_code.specs.Parts.{PlanParts}
+use Rattle.nc_meta.specs.declared.meta.Live.{Live}
 use Rattle.nc_meta.specs.declared.meta.Meta.{Meta}
+use Rattle.nc_meta.specs.declared.meta.Meta.TheVariants as meta
 use Rattle.nc_meta.specs.Metas.{generation_of}
 use Rattle.nc_nextloss.specs.GoodCodes.{GoodParts}
-use Rattle.nc_search.specs.Searches.{IsStart, NoStart}
+use Rattle.nc_search.specs.Searches.{IsMend, IsStart, NoMend, NoStart}
 use Rattle.nc_cloud.specs.Contents.{Contents}
 use Rattle.nc_cloud.specs.declared.fleet.Fleet.{Ghosts as FleetGhosts}
-use Rattle.nc_state.specs.Holding.{AllHold, IsDisputed, IsLiveTop, IsSettledOn, IsTop, IsTopOrNone, Undisputed, top_generation}
+use Rattle.nc_state.specs.Holding.{AllHold, HoldsIfAny, IsDisputed, IsLiveTop, IsSettledOn, IsTop, IsTopOrNone, Undisputed, top_generation}
 use Rattle.nc_state.specs.Standing.{AreNames}
 use Rattle.nc_state.specs.Versions.Version.{Removed, Stored}
+use Rattle.nc_download.specs.declared.short.How.{How}
+use Rattle.nc_repair.specs.Mending.{mended_by}
+use Rattle.nc_repair.specs.Repairing.{IsLeastDamaged}
 use Rattle.nc_settle.specs.Elsewhere.{LeastMisplaced, NothingMisplaced}
 use Rattle.nc_write.specs.Putting.{IsStored, put_meta}
 use Rattle.nc_words.specs.declared.act.Act.{Act}
@@ -19,7 +26,7 @@ use Rattle.nc_vault.specs.declared.fault.Fault.{Fault}
 use Rattle.nc_vault.specs.declared.fault.Fault.TheVariants as fault
 use Rattle.nc_vault.specs.declared.reply.Reply.{Reply}
 use Rattle.nc_vault.specs.declared.reply.Reply.TheVariants as reply
-use Rattle.nc_vault.specs.Makings.{next_key}
+use Rattle.nc_vault.specs.Makings.{next_key, stored_plan}
 
 -- ---- acts that write
 
@@ -92,6 +99,102 @@ WriteRefuses n s name F (fault.Cloud c) = Unit {0}
 WriteRefuses n s name F fault.Memory = Unit {0}
 WriteRefuses n s name F other = ⊥
 
+-- ---- repair
+
+-- for the file of the highest metadata of F a plan and the first good code were drawn, to repair cloud i
+pub record DrawsRepair (n : ℕ) (s : Setting) (i : ℕ) (name : List ℕ) (F : Contents) : Type 0 where
+  pub old : Live
+  pub agreed : IsAgreedTop n name F (Some (meta.Live old))
+  pub index : ℕ
+  pub plan : PlanParts
+  pub good : GoodParts
+  pub drawn : IsMend old.code (stored_plan old i) i (next_key s name (Some (meta.Live old))) s.budget index plan good
+
+-- That file is repaired at G: by the code, which has a witness for each next loss, and every cloud holds its metadata after the repair.
+pub record IsMendedFrom (n : ℕ) (s : Setting) (i : ℕ) (name : List ℕ) (F G : Contents) : Type 0 where
+  pub draws : DrawsRepair n s i name F
+  pub is_good : IsGood draws.good.code draws.good.witnesses
+  pub zero : List ℕ
+  pub one : List ℕ
+  pub held : (c : ℕ) → c < n → HoldsIfAny n G name c (Some (meta.Live (mended_by i draws.old draws.good zero one)))
+
+-- the highest metadata of F, if any, isn't that of a file, and every cloud holds it at G
+pub record IsSettledWithout (n : ℕ) (name : List ℕ) (F G : Contents) : Type 0 where
+  pub top : Option Meta
+  pub agreed : IsAgreedTop n name F top
+  pub not_live : IsLiveTop top → ⊥
+  pub settled : IsSettledOn n G name top
+
+-- a repair that is done with the name has repaired its file, or there is none
+pub data RepairsName (n : ℕ) (s : Setting) (i : ℕ) (name : List ℕ) (F G : Contents) : Type 0 where
+  mends : IsMendedFrom n s i name F G → RepairsName n s i name F G
+  passes : IsSettledWithout n name F G → RepairsName n s i name F G
+
+-- it is done with all names, and repaired no more files than there are names
+pub record RepairsAll (n : ℕ) (s : Setting) (i : ℕ) (F G : Contents) (number : ℕ) : Type 0 where
+  pub names : List (List ℕ)
+  pub are_names : AreNames n F names
+  pub few : number ≤ length names
+  pub each : (name : List ℕ) → Contains names name → RepairsName n s i name F G
+
+-- no code was found for the repair of the file of the highest metadata
+pub record IsMendSpent (n : ℕ) (s : Setting) (i : ℕ) (name : List ℕ) (F : Contents) (tried : ℕ) : Type 0 where
+  pub all : tried ≡ s.budget
+  pub old : Live
+  pub top : IsTop n F name (meta.Live old)
+  pub has_next : old.generation < 2 ^ 64 - 2
+  pub none : NoMend old.code (stored_plan old i) i (next_key s name (Some (meta.Live old))) s.budget
+
+-- the file of the highest metadata has the last generation
+pub record IsWornFile (n : ℕ) (name : List ℕ) (F : Contents) : Type 0 where
+  pub old : Live
+  pub top : IsTop n F name (meta.Live old)
+  pub last : old.generation ≡ 2 ^ 64 - 2
+
+-- of the chunks that the plan takes that of row r on cloud c isn't good at G, for this cause; those of all lower survivors are
+pub record FindsBadChunk (n : ℕ) (s : Setting) (i : ℕ) (name : List ℕ) (F G : Contents) (c r : ℕ) (how : How) : Type 0 where
+  pub draws : DrawsRepair n s i name F
+  pub here : IsLeastDamaged n name draws.old draws.plan i G c r how
+
+-- why a repair isn't done with a name, by what the clouds held when it came to it and what they hold then
+abbrev pub RepairRefuses : ℕ → Setting → ℕ → List ℕ → Contents → Contents → Fault → Type 0
+RepairRefuses n s i name F G (fault.Misplaced c a b) = LeastMisplaced n name F c a b
+RepairRefuses n s i name F G (fault.Conflict g a b) = NothingMisplaced n name F × IsDisputed n F name g a b
+RepairRefuses n s i name F G fault.Worn = IsWornFile n name F
+RepairRefuses n s i name F G (fault.Spent tried) = IsMendSpent n s i name F tried
+RepairRefuses n s i name F G (fault.Damaged c r how) = FindsBadChunk n s i name F G c r how
+RepairRefuses n s i name F G (fault.Cloud c) = Unit {0}
+RepairRefuses n s i name F G fault.Memory = Unit {0}
+RepairRefuses n s i name F G other = ⊥
+
+-- ---- an act on all names, of one of them
+
+-- it is done with the name, to which it came at F
+abbrev pub LeavesName : ℕ → Setting → Act → List ℕ → Contents → Contents → Type 0
+LeavesName n s (act.Repair i) name F G = RepairsName n s i name F G
+LeavesName n s other name F G = IsSettledFrom n name F G
+
+-- it isn't, for this cause
+abbrev pub NameRefuses : ℕ → Setting → Act → List ℕ → Contents → Contents → Fault → Type 0
+NameRefuses n s (act.Repair i) name F G cause = RepairRefuses n s i name F G cause
+NameRefuses n s other name F G cause = WriteRefuses n s name F cause
+
+-- it was done with so many names, in their order, and isn't done with the next one, for this cause
+pub record StopsAtName (n : ℕ) (s : Setting) (a : Act) (F G : Contents) (cause : Fault) (after : Option ℕ) : Type 0 where
+  pub names : List (List ℕ)
+  pub are_names : AreNames n F names
+  pub done : ℕ
+  pub tells : after ≡ Some done
+  pub name : List ℕ
+  pub next : slice_get names done ≡ Some name
+  pub refuses : NameRefuses n s a name F G cause
+
+-- why it stops: at that name, unless a cloud failed or no memory was found
+abbrev pub SweepRefuses : ℕ → Setting → Act → Contents → Contents → Fault → Option ℕ → Type 0
+SweepRefuses n s a F G (fault.Cloud c) after = Unit {0}
+SweepRefuses n s a F G fault.Memory after = Unit {0}
+SweepRefuses n s a F G cause after = StopsAtName n s a F G cause after
+
 -- ---- all of them
 
 -- the reply of an act that is done, from F to G
@@ -100,8 +203,10 @@ SaysBy n task F G (act.Put name) (reply.Stored generation) = Stores n task.setti
 SaysBy n task F G (act.Put name) (reply.Stopped cause after) = WriteRefuses n task.setting name F cause
 SaysBy n task F G (act.Remove name) (reply.Removed generation) = Removes n name F G generation
 SaysBy n task F G (act.Remove name) (reply.Stopped cause after) = WriteRefuses n task.setting name F cause
+SaysBy n task F G (act.Repair i) (reply.Repaired files) = RepairsAll n task.setting i F G files
+SaysBy n task F G (act.Repair i) (reply.Stopped cause after) = SweepRefuses n task.setting (act.Repair i) F G cause after
 SaysBy n task F G act.Recover (reply.Settled names) = SettlesAll n F G names
-SaysBy n task F G act.Recover (reply.Stopped cause after) = (name : List ℕ) × WriteRefuses n task.setting name F cause
+SaysBy n task F G act.Recover (reply.Stopped cause after) = SweepRefuses n task.setting act.Recover F G cause after
 SaysBy n task F G a answer = Unit {0}
 
 abbrev pub Says : {A : Type 0} → FleetGhosts A → Task → A → A → Reply → Type 0

@@ -1,11 +1,11 @@
 -- How far an act has come on a vault.
-use Rattle.std.specs.Prelude.{ℕ, ◌≡◌, ◌<◌, ◌≤◌, ◌+◌, true, false, Option, None, Some, List, [], ◌∷◌, length, take, slice_get, Contains, IfSome, IsSome}
+use Rattle.std.specs.Prelude.{ℕ, ◌≡◌, ◌<◌, ◌≤◌, ◌+◌, true, Option, None, Some, List, [], ◌∷◌, length, take, slice_get, Contains, IfSome, IsSome}
 use Rattle.nc_name.specs.declared.key.Key.{Key}
 use Rattle.nc_name.specs.Keys.{name_of}
 use Rattle.nc_cloud.specs.Contents.{Contents}
 use Rattle.nc_cloud.specs.Stopping.{Stops}
 use Rattle.nc_cloud.specs.declared.fleet.Fleet.{Ghosts as FleetGhosts}
-use Rattle.nc_state.specs.Clouds.{Clouds}
+use Rattle.nc_state.specs.Clouds.{Clouds, without_cloud}
 use Rattle.nc_state.specs.Commands.{RestsAt}
 use Rattle.nc_state.specs.Entries.Entry.{Rest}
 use Rattle.nc_state.specs.Holding.{AllHold}
@@ -16,7 +16,7 @@ use Rattle.nc_state.specs.Versions.{Version}
 use Rattle.nc_state.specs.Weighing.{after}
 use Rattle.nc_words.specs.declared.act.Act.{Act}
 use Rattle.nc_words.specs.declared.act.Act.TheVariants as act
-use Rattle.nc_words.specs.Acts.{Task}
+use Rattle.nc_words.specs.Acts.{Task, heals}
 use Rattle.nc_vault.specs.declared.reply.Reply.{Reply}
 use Rattle.nc_vault.specs.declared.reply.Reply.TheVariants as reply
 use Rattle.nc_vault.specs.Makings.{Brings, Makes}
@@ -25,13 +25,19 @@ use Rattle.nc_vault.specs.Makings.{Brings, Makes}
 abbrev pub WorksOn : ℕ → Contents → Act → List (List ℕ) → Type 0
 WorksOn n F (act.Put name) names = names ≡ name ∷ []
 WorksOn n F (act.Remove name) names = names ≡ name ∷ []
+WorksOn n F (act.Repair i) names = AreNames n F names
 WorksOn n F act.Recover names = AreNames n F names
 WorksOn n F other names = names ≡ []
 
 -- the clouds on which an act leaves all chunks of a name right
 abbrev pub fills : Act → Clouds
 fills (act.Put name) c = true
-fills other c = false
+fills other c = heals other c
+
+-- of the damaged clouds, those that still are once the act is done
+abbrev pub still_damaged : Act → Clouds → Clouds
+still_damaged (act.Repair i) D = without_cloud D i
+still_damaged other D = D
 
 -- ---- one name
 
@@ -82,7 +88,7 @@ pub record Does (n : ℕ) (task : Task) (V W : Vault) : Type 0 where
   pub names : List (List ℕ)
   pub works_on : WorksOn n V.contents task.act names
   pub reached : HasReached n task V W names (length names)
-  pub damaged : W.damaged ≡ V.damaged
+  pub damaged : W.damaged ≡ still_damaged task.act V.damaged
 
 -- ---- contents that stand for it
 
@@ -108,6 +114,7 @@ pub record StandsDone (n : ℕ) (task : Task) (V : Vault) (G : Contents) : Type 
 
 -- an act on all names that was stopped tells how many it was done with; any other tells nothing
 abbrev pub TellsDone : Act → Option ℕ → ℕ → Type 0
+TellsDone (act.Repair i) after done = after ≡ Some done
 TellsDone act.Recover after done = after ≡ Some done
 TellsDone act.List after done = IsSome after
 TellsDone other after done = after ≡ None

@@ -1,9 +1,10 @@
 ghost use Rattle.std.specs.Prelude.{◌≡◌};
-ghost use Rattle.nc_vault.specs.Faults.{fault_of_fetch, fault_of_settle, fault_of_write};
+ghost use Rattle.nc_vault.specs.Faults.{fault_of_fetch, fault_of_repair, fault_of_settle, fault_of_write};
 ghost use Rattle.nc_vault.specs.declared.fault.Fault.TheVariants.{Memory as NoMemory};
 
-use nc_download::{FetchFault, ShortList};
+use nc_download::{FetchFault, How, ShortList};
 use nc_name::Memory;
+use nc_repair::RepairFault;
 use nc_settle::SettleFault;
 use nc_write::WriteFault;
 use thiserror::Error;
@@ -17,6 +18,13 @@ pub enum Fault {
     /// This cloud failed: the least of the first step in which one did.
     #[error("cloud {0} failed")]
     Cloud(u8),
+    /// The chunk of this row on this cloud isn't good, and the repair needs it: the least such cloud.
+    #[error("the chunk of row {row} on cloud {cloud} isn't good")]
+    Damaged {
+        cloud: u8,
+        row: u8,
+        how: How,
+    },
     /// Too few clouds are good. Each that isn't is listed, with its cause.
     #[error("too few clouds are good")]
     Short(ShortList),
@@ -88,6 +96,19 @@ impl From<WriteFault> for Fault {
             WriteFault::Cloud(cloud) => Fault::Cloud(cloud),
             WriteFault::Worn => Fault::Worn,
             WriteFault::Memory => Fault::Memory,
+        }
+    }
+}
+
+impl From<RepairFault> for Fault {
+    ghost from_gives = { λ repair fault. fault ≡ fault_of_repair repair };
+
+    fn from(fault: RepairFault) -> Fault {
+        match fault {
+            RepairFault::Cloud(cloud) => Fault::Cloud(cloud),
+            RepairFault::Damaged { cloud, row, how } => Fault::Damaged { cloud, row, how },
+            RepairFault::Worn => Fault::Worn,
+            RepairFault::Memory => Fault::Memory,
         }
     }
 }

@@ -11,10 +11,12 @@ mod listing;
 mod putting;
 mod recovering;
 mod removing;
+mod repairing;
 mod reply;
 mod rows;
 mod statting;
 mod stepping;
+mod sweeping;
 
 pub use fault::Fault;
 pub use reply::{FileRow, Reply, Rows};

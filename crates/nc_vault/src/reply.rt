@@ -33,6 +33,10 @@ pub enum Reply {
         len: u64,
         witnessed: bool,
     },
+    /// A cloud was made whole: so many files were repaired.
+    Repaired {
+        files: u64,
+    },
     /// So many names were brought to rest.
     Settled {
         names: u64,

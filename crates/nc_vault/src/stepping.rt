@@ -1,15 +1,15 @@
 ghost use Rattle.std.specs.Prelude.{◌≤◌, ◌^◌, length};
-ghost use Rattle.nc_words.specs.Acts.{task_of};
+ghost use Rattle.nc_words.specs.Acts.{FitsWidth, task_of};
 ghost use Rattle.nc_words.specs.Settings.{IsSetting};
 ghost use Rattle.nc_vault.specs.Acting.{Acted};
 
 use crate::getting::get;
 use crate::listing::list;
 use crate::putting::put;
-use crate::recovering::recover;
 use crate::removing::remove;
 use crate::reply::Reply;
 use crate::statting::stat;
+use crate::sweeping::sweep;
 use nc_cloud::Fleet;
 use nc_words::{Act, Setting};
 use std::alloc::Global;
@@ -29,6 +29,7 @@ pub fn step<R: Threads + Sync, F: Fleet>(
     requires narrow { F.clouds fleet.old ≤ 10 }
     requires setting { IsSetting setting.now }
     requires short { length bytes.now ≤ 2 ^ 26 }
+    requires fits { FitsWidth (F.clouds fleet.old) act.now }
     ensures acted { Acted F.Fleet (task_of setting.now act.now bytes.now) fleet.old fleet.new result }
 {
     match act {
@@ -37,6 +38,6 @@ pub fn step<R: Threads + Sync, F: Fleet>(
         Act::Remove(name) => remove(alloc, fleet, name),
         Act::List => list(alloc, fleet),
         Act::Stat(name) => stat(alloc, fleet, name),
-        Act::Recover => recover(alloc, fleet),
+        Act::Repair(_) | Act::Recover => sweep(rt, alloc, fleet, setting, act),
     }
 }

@@ -1,5 +1,6 @@
 -- Words mean one command, and a bad name has one cause.
-use Rattle.std.proofs.Common.{◌≡◌, ◌<◌, ◌≤◌, ℕ, List, [], ◌∷◌, Option, Some, None, if◌then◌else◌, ◌==◌, length, slice_index, codes, arith, ap, refl, sym, ◌∙◌, subst, true, false}
+use Rattle.std.proofs.Common.{◌≡◌, ◌<◌, ℕ, List, [], ◌∷◌, Option, Some, None, if◌then◌else◌, ◌==◌, slice_index, arith, ap, refl, sym, ◌∙◌, subst, true, false}
+use Rattle.std.specs.Str.Parse.{digits_value}
 use Rattle.nc_name.specs.Names.{IsFirstControl, RefusesName, is_control}
 use Rattle.nc_name.specs.declared.name.NameFault.{NameFault}
 use Rattle.nc_name.specs.declared.name.NameFault.TheVariants.{Empty, Long, Control}
@@ -21,15 +22,17 @@ bad_name n words text a cause names means refuses = record { command = command.A
 read_one : ℕ → Option Command
 read_one letter = if letter == 108 then Some (command.Act act.List) else Some (command.Act act.Recover)
 
-read_two : ℕ → List ℕ → Option Command
-read_two letter text =
+-- the command that a word with these first two letters and a text are, where they are one
+read_two : ℕ → ℕ → List ℕ → Option Command
+read_two letter next text =
     if letter == 112 then Some (command.Act (act.Put text)) else if letter == 103 then Some (command.Act (act.Get text))
-    else if letter == 114 then Some (command.Act (act.Remove text)) else Some (command.Act (act.Stat text))
+    else if letter == 115 then Some (command.Act (act.Stat text))
+    else if next == 101 then Some (command.Act (act.Repair (digits_value 10 text))) else Some (command.Act (act.Remove text))
 
 read_as : List (List ℕ) → Option Command
 read_as [] = None
 read_as (word ∷ []) = read_one (slice_index word 0)
-read_as (word ∷ text ∷ words) = read_two (slice_index word 0) text
+read_as (word ∷ text ∷ words) = read_two (slice_index word 0) (slice_index word 1) text
 
 means_read : (n : ℕ) (words : List (List ℕ)) (c : Command) → Means n words c → read_as words ≡ Some c
 unfolding read_as read_two read_one
@@ -38,6 +41,9 @@ means_read n words (command.Act (act.Get name)) is = ap read_as is
 means_read n words (command.Act (act.Remove name)) is = ap read_as is
 means_read n words (command.Act (act.Stat name)) is = ap read_as is
 means_read n words (command.Act act.List) is = ap read_as is
+means_read n words (command.Act (act.Repair cloud)) asks =
+    let repair : ℕ → Option Command = λ c. Some (command.Act (act.Repair c)) in
+    ap read_as asks.words_are ∙ ap repair (sym asks.number.number.value_is)
 means_read n words (command.Act act.Recover) is = ap read_as is
 
 pub one_command : WordsMeanOne

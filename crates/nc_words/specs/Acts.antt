@@ -1,11 +1,8 @@
 -- What is asked of a vault.
-use Rattle.std.specs.Prelude.{ℕ, ◌≤◌, ◌^◌, Option, None, Some, List, IfSome, length}
-use Rattle.nc_bytes.specs.Bytes.{AreBytes}
-use Rattle.nc_name.specs.Names.{IsName}
+use Rattle.std.specs.Prelude.{ℕ, ◌<◌, ◌==◌, Bool, true, false, Option, None, Some, List}
 use Rattle.nc_words.specs.declared.act.Act.{Act}
 use Rattle.nc_words.specs.declared.act.Act.TheVariants as act
 use Rattle.nc_words.specs.declared.setting.Setting.{Setting}
-use Rattle.nc_words.specs.Settings.{IsSetting}
 
 -- an act, what was chosen for it, and the bytes that a put stores
 pub record Task : Type 0 where
@@ -23,11 +20,21 @@ subject (act.Get name) = Some name
 subject (act.Remove name) = Some name
 subject (act.Stat name) = Some name
 subject act.List = None
+subject (act.Repair cloud) = None
 subject act.Recover = None
 
--- the task can be begun
-pub record IsTask (task : Task) : Type 0 where
-  pub name : IfSome (subject task.act) IsName
-  pub setting : IsSetting task.setting
-  pub short : length task.bytes ≤ 2 ^ 26
-  pub bytes : AreBytes task.bytes
+-- the acts that work on all names that stand on clouds, one after the other
+abbrev pub sweeps : Act → Bool
+sweeps (act.Repair cloud) = true
+sweeps act.Recover = true
+sweeps other = false
+
+-- the clouds that an act makes whole: once it is done they are damaged no more
+abbrev pub heals : Act → ℕ → Bool
+heals (act.Repair cloud) c = c == cloud
+heals other c = false
+
+-- the clouds that it makes whole are among n
+abbrev pub FitsWidth : ℕ → Act → Type 0
+FitsWidth n (act.Repair cloud) = cloud < n
+FitsWidth n other = Unit {0}

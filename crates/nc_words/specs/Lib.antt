@@ -1,3 +1,4 @@
 pub mod Acts
+pub mod Numbers
 pub mod Settings
 pub mod Words

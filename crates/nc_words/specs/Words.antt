@@ -8,8 +8,15 @@ use Rattle.nc_words.specs.declared.act.Command.TheVariants.{Act}
 use Rattle.nc_words.specs.declared.act.Request.{Request}
 use Rattle.nc_words.specs.declared.words.WordFault.{WordFault}
 use Rattle.nc_words.specs.declared.words.WordFault.TheVariants.{Usage, Name}
-use Rattle.nc_words.specs.Acts.{subject}
+use Rattle.nc_words.specs.Acts.{FitsWidth, subject}
+use Rattle.nc_words.specs.Numbers.{IsCloudNumber}
 use Rattle.nc_words.specs.Settings.{standard}
+
+-- the words ask for a repair of this cloud of n
+pub record AsksRepair (n : ℕ) (words : List (List ℕ)) (cloud : ℕ) : Type 0 where
+  pub text : List ℕ
+  pub words_are : words ≡ codes "repair" ∷ text ∷ []
+  pub number : IsCloudNumber n text cloud
 
 -- the words ask n clouds for this, the rule on names aside
 abbrev pub Means : ℕ → List (List ℕ) → Command → Type 0
@@ -18,11 +25,16 @@ Means n words (Act (act.Get name)) = words ≡ codes "get" ∷ name ∷ []
 Means n words (Act (act.Remove name)) = words ≡ codes "rm" ∷ name ∷ []
 Means n words (Act (act.Stat name)) = words ≡ codes "stat" ∷ name ∷ []
 Means n words (Act act.List) = words ≡ codes "ls" ∷ []
+Means n words (Act (act.Repair cloud)) = AsksRepair n words cloud
 Means n words (Act act.Recover) = words ≡ codes "recover" ∷ []
 
 -- the name that a command is about, where it is about one
 abbrev pub target : Command → Option (List ℕ)
 target (Act a) = subject a
+
+-- the clouds that a command makes whole are among n
+abbrev pub FitsCommand : ℕ → Command → Type 0
+FitsCommand n (Act a) = FitsWidth n a
 
 -- the words are this command
 pub record IsCommand (n : ℕ) (words : List (List ℕ)) (command : Command) : Type 0 where

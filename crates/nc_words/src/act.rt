@@ -14,6 +14,8 @@ pub enum Act {
     List,
     /// Tells about the file of this name.
     Stat(Name),
+    /// Makes this cloud whole again: of each file, from one chunk of each other cloud.
+    Repair(u8),
     /// Brings all names to rest.
     Recover,
 }

@@ -3,6 +3,7 @@
 
 mod act;
 pub mod laws;
+mod numbers;
 mod setting;
 #[cfg(test)]
 mod tests;

@@ -17,6 +17,10 @@ fn words_ask_for_an_act_or_nothing(rt: HostRuntime) -> Result<(), Fail> {
         ("ls a", "Usage"),
         ("recover", "Recover"),
         ("recover a", "Usage"),
+        ("repair 1", "Repair"),
+        ("repair", "Usage"),
+        ("repair 1 2", "Usage"),
+        ("repair recover", "Usage"),
         ("put", "Usage"),
         ("PUT a", "Usage"),
         ("", "Usage"),
@@ -34,6 +38,44 @@ fn words_ask_for_an_act_or_nothing(rt: HostRuntime) -> Result<(), Fail> {
     Ok(())
 }
 
+#[test]
+fn a_repair_is_of_a_cloud_by_its_number(rt: HostRuntime) -> Result<(), Fail> {
+    let alloc = rt.alloc();
+    for (text, want) in [
+        ("0", Some(0)),
+        ("3", Some(3)),
+        ("03", Some(3)),
+        ("00000000000000000003", Some(3)),
+        ("000000000000000000003", None),
+        ("18446744073709551616", None),
+        ("4", None),
+        ("260", None),
+        ("+1", None),
+        ("-1", None),
+        ("1 ", None),
+        ("", None),
+    ] {
+        let words = [
+            String::from_str(alloc, "repair")?,
+            String::from_str(alloc, text)?,
+        ];
+        assert_eq!(rt; cloud_of(read_words(&words, 4)), want, "{text}");
+    }
+    Ok(())
+}
+
+/// The cloud of a repair, or none at a fault of usage.
+fn cloud_of(read: Result<Request, WordFault>) -> Option<u8> {
+    match read {
+        Ok(request) => match request.command {
+            Command::Act(Act::Repair(cloud)) => Some(cloud),
+            Command::Act(_) => Some(255),
+        },
+        Err(WordFault::Usage) => None,
+        Err(WordFault::Name(_)) => Some(255),
+    }
+}
+
 /// What was read, in a word.
 fn asked(read: Result<Request, WordFault>) -> &'static str {
     match read {
@@ -43,6 +85,7 @@ fn asked(read: Result<Request, WordFault>) -> &'static str {
             Command::Act(Act::Remove(_)) => "Remove",
             Command::Act(Act::List) => "List",
             Command::Act(Act::Stat(_)) => "Stat",
+            Command::Act(Act::Repair(_)) => "Repair",
             Command::Act(Act::Recover) => "Recover",
         },
         Err(WordFault::Usage) => "Usage",

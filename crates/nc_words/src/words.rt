@@ -1,8 +1,9 @@
 ghost use Rattle.std.specs.Prelude.{◌≡◌, ◌≢◌, ℕ, List, [], ◌∷◌, IfOk, IfErr, IfSome, IfNone, map, string_bytes};
 ghost use Rattle.nc_words.specs.Settings.{IsSetting};
-ghost use Rattle.nc_words.specs.Words.{Asks, IsCommand, RefusesWords};
+ghost use Rattle.nc_words.specs.Words.{Asks, FitsCommand, IsCommand, RefusesWords};
 
 use crate::act::{Act, Command, Request};
+use crate::numbers::read_cloud;
 use crate::setting::Setting;
 use nc_name::{Name, NameFault};
 use thiserror::Error;
@@ -10,7 +11,7 @@ use thiserror::Error;
 /// Why the words ask for nothing.
 #[derive(Clone, Copy, Debug, Error)]
 pub enum WordFault {
-    /// They aren't one of the commands with exactly its arguments.
+    /// They aren't one of the commands with exactly its arguments. A number that is no cloud's is no argument.
     #[error("the words are no command with its arguments")]
     Usage,
     /// They are, but the name isn't one.
@@ -22,6 +23,7 @@ pub enum WordFault {
 pub fn read_words(words: &[String], width: u8) -> Result<Request, WordFault>
     ensures request { IfOk result (Asks width (map string_bytes words.now)) }
     ensures setting { IfOk result (λ request. IsSetting request.setting) }
+    ensures fits { IfOk result (λ request. FitsCommand width request.command) }
     ensures fault { IfErr result (RefusesWords width (map string_bytes words.now)) }
 {
     let command = read_command(words, width)?;
@@ -31,7 +33,7 @@ pub fn read_words(words: &[String], width: u8) -> Result<Request, WordFault>
     })
 }
 
-/// The command that the words are. No command asks how many clouds there are yet.
+/// The command that the words are.
 fn read_command(words: &[String], width: u8) -> Result<Command, WordFault>
     ensures command { IfOk result (IsCommand width (map string_bytes words.now)) }
     ensures fault { IfErr result (RefusesWords width (map string_bytes words.now)) }
@@ -51,12 +53,17 @@ fn read_command(words: &[String], width: u8) -> Result<Command, WordFault>
     }
 }
 
-/// The command that two words are: one about a name.
+/// The command that two words are: one about a cloud or about a name.
 fn read_pair(word: &str, text: &str, width: u8) -> Result<Command, WordFault>
     ensures command { IfOk result (IsCommand width (word.now ∷ text.now ∷ [])) }
     ensures fault { IfErr result (RefusesWords width (word.now ∷ text.now ∷ [])) }
 {
-    let _ = width;
+    if word == "repair" {
+        return match read_cloud(text, width) {
+            Some(cloud) => Ok(Command::Act(Act::Repair(cloud))),
+            None => Err(WordFault::Usage),
+        };
+    }
     let name = Name::read(text);
     let made = match word {
         "put" => name.map(Act::Put),

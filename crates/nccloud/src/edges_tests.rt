@@ -1,6 +1,7 @@
 //! The parts of `main`: words, folders and exit codes.
 
 use crate::edges::{after_first, ending, folders};
+use nc_download::How;
 use nc_run::Status;
 use nc_vault::Fault;
 use std::process::ExitCode;
@@ -20,10 +21,16 @@ fn main_joins_these_parts(rt: HostRuntime) -> Result<(), Fail> {
         assert_eq!(rt; folders(rt, rest)?.len(), 1, "{list}");
     }
     assert_eq!(rt; folders(rt, &[])?.len(), 0);
+    let damaged = Fault::Damaged {
+        cloud: 1,
+        row: 2,
+        how: How::Missing,
+    };
     for (status, code) in [
         (Status::Ok, 0),
         (Status::Usage, 2),
         (Status::WriteFault, 9),
+        (Status::Vault(damaged), 10),
         (Status::Vault(Fault::Worn), 12),
     ] {
         assert!(rt; ending(&status) == ExitCode::from(code), "{code}");

@@ -27,8 +27,5 @@ returns-in-Stat g c = record {
       (c.stat.ensures.acted c.args.setting.now c.args.bytes.now);
 }
 
-pub returns-in-Recover : goal.returns-in-Recover
-returns-in-Recover g c = record {
-  acted = subst (λ (a : Act). Acted g.F.Fleet (task_of c.args.setting.now a c.args.bytes.now) c.args.fleet.now c.recover.new.fleet c.recover.result) (sym c.in-Recover.is)
-      (c.recover.ensures.acted c.args.setting.now c.args.bytes.now);
-}
+pub returns-in-Repair : goal.returns-in-Repair
+returns-in-Repair g c = record { acted = c.sweep.ensures.acted c.args.bytes.now }

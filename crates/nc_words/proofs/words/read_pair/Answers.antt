@@ -1,4 +1,4 @@
-use Rattle.std.proofs.Common.{rules, refl, ap, ◌∷◌, [], List, ℕ, ◌≡◌, codes}
+use Rattle.std.proofs.Common.{rules, refl, ap, ◌∷◌, [], List, ℕ}
 use Rattle.nc_words.specs.declared.act.Act.TheVariants as act
 use Rattle.nc_words.proofs.OneMeaning.{bad_name}
 use Rattle.nc_words.proofs.words.read_pair.Goals.{in-put, in-get, in-rm, in-stat}
