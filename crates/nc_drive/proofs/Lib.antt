@@ -4,6 +4,8 @@ pub mod EventLaws
 pub mod GetLaws
 pub mod HistoryLaws
 pub mod LossLaw
+pub mod OneActLaws
+pub mod RepairLaws
 pub mod RunLaws
 pub mod StopLaws
 pub mod TurnLaws

@@ -47,11 +47,11 @@ fn stop(alloc: Global, words: &str, input: &[u8], round: u64, fates: &[Torn]) ->
     })
 }
 
-/// The loss of one of the first two clouds.
-fn lose(alloc: Global, second: bool, rest: Torn) -> Event
+/// The loss of a cloud.
+fn lose(alloc: Global, cloud: u8, rest: Torn) -> Event
+    requires { cloud < 4 }
     ensures { EventFits 4 result }
 {
-    let cloud = if second { 1 } else { 0 };
     let except = KeyFates::new(alloc);
     Event::Lose {
         cloud,
@@ -114,7 +114,7 @@ fn a_loss_before_it_is_settled_brings_the_old_value_back(rt: HostRuntime) -> Res
     let alloc = rt.alloc();
     let mut fleet = MemFleet::new(alloc, 4)?;
     assert!(rt; stopped_put(&rt, alloc, &mut fleet)?);
-    let lost = after(&rt, alloc, &mut fleet, lose(alloc, false, Torn::Gone))?;
+    let lost = after(&rt, alloc, &mut fleet, lose(alloc, 0, Torn::Gone))?;
     assert!(rt; lost.status.code() == 0 && lost.done == 0);
     let recovered = after(&rt, alloc, &mut fleet, run(alloc, "recover", b"")?)?;
     assert!(rt; recovered.status.code() == 0 && recovered.done == 1);
@@ -130,7 +130,7 @@ fn a_loss_after_it_is_settled_leaves_the_new_value(rt: HostRuntime) -> Result<()
     assert!(rt; stopped_put(&rt, alloc, &mut fleet)?);
     let recovered = after(&rt, alloc, &mut fleet, run(alloc, "recover", b"")?)?;
     assert!(rt; recovered.out.bytes() == b"settled 1\n".as_slice());
-    let lost = after(&rt, alloc, &mut fleet, lose(alloc, false, Torn::Gone))?;
+    let lost = after(&rt, alloc, &mut fleet, lose(alloc, 0, Torn::Gone))?;
     assert!(rt; recovered.mark < lost.mark);
     let bytes = got(&rt, alloc, &mut fleet, "get a")?;
     assert_eq!(rt; bytes.bytes(), b"new!".as_slice());
@@ -172,6 +172,13 @@ struct Gave {
     name: u8,
     value: Vec<u8>,
     done: bool,
+}
+
+/// What is known of a history from its outcomes: what was given, and which clouds are damaged.
+#[derive(Drop)]
+struct Known {
+    acts: Vec<Gave>,
+    damaged: Vec<u8>,
 }
 
 /// The name has this value by the last act that was done, or one that was begun since.
@@ -242,27 +249,87 @@ fn giving(
     stop(alloc, words.as_str(), value, round, &fates)
 }
 
-/// An event by chance, and what it gave.
+/// The loss of some cloud, where at most two are damaged then.
+fn losing<R: Threads + Sync>(
+    rt: &R,
+    alloc: Global,
+    fleet: &mut MemFleet,
+    state: &mut u32,
+    damaged: &mut Vec<u8>,
+) -> Result<(), Fail>
+    requires wide { width_of fleet.old ≡ 4 }
+    ensures { IfOk result (λ u. width_of fleet.new ≡ 4) }
+{
+    let cloud = next(state) % 4;
+    if !damaged.contains(&cloud) {
+        if 2 <= damaged.len() {
+            return Ok(());
+        }
+        damaged.push(cloud)?;
+    }
+    after(rt, alloc, fleet, lose(alloc, cloud, fate(state)))?;
+    Ok(())
+}
+
+/// The repair of the cloud that was lost last, or of some cloud where none is damaged, stopped in
+/// one of its rounds or not. Once it is done, the cloud isn't damaged. It may need a chunk of another
+/// damaged cloud, or find no good code.
+fn repairing<R: Threads + Sync>(
+    rt: &R,
+    alloc: Global,
+    fleet: &mut MemFleet,
+    state: &mut u32,
+    damaged: &mut Vec<u8>,
+) -> Result<bool, Fail>
+    requires wide { width_of fleet.old ≡ 4 }
+    ensures { IfOk result (λ good. width_of fleet.new ≡ 4) }
+{
+    let cloud = match damaged.as_slice().last() {
+        Some(lost) => *lost,
+        None => next(state) % 4,
+    };
+    let words = format!(in alloc; "repair {cloud}")?;
+    let event = if next(state) < 128 {
+        run(alloc, words.as_str(), b"")?
+    } else {
+        let round = u64::from(next(state) % 16);
+        let fates = [fate(state), fate(state), fate(state), fate(state)];
+        stop(alloc, words.as_str(), b"", round, &fates)?
+    };
+    let outcome = after(rt, alloc, fleet, event)?;
+    if outcome.done == 1 {
+        damaged.retain(|other| *other != cloud);
+    }
+    Ok(match outcome.status.code() {
+        0 | 6 => true,
+        10 => damaged.iter().any(|other| *other != cloud),
+        _ => false,
+    })
+}
+
+/// An event by chance, and what is known by it. Its outcome is one that there may be.
 fn chance<R: Threads + Sync>(
     rt: &R,
     alloc: Global,
     fleet: &mut MemFleet,
     state: &mut u32,
-    acts: &mut Vec<Gave>,
-) -> Result<(), Fail>
+    known: &mut Known,
+) -> Result<bool, Fail>
     requires wide { width_of fleet.old ≡ 4 }
-    ensures { IfOk result (λ u. width_of fleet.new ≡ 4) }
+    ensures { IfOk result (λ good. width_of fleet.new ≡ 4) }
 {
     let name = next(state) % 3;
-    let kind = next(state) % 8;
-    if kind == 6 {
-        let second = next(state) < 128;
-        after(rt, alloc, fleet, lose(alloc, second, fate(state)))?;
-        return Ok(());
+    let kind = next(state) % 12;
+    if 9 <= kind {
+        return repairing(rt, alloc, fleet, state, &mut known.damaged);
     }
-    if kind == 7 {
+    if kind == 8 {
         after(rt, alloc, fleet, run(alloc, "recover", b"")?)?;
-        return Ok(());
+        return Ok(true);
+    }
+    if 6 <= kind {
+        losing(rt, alloc, fleet, state, &mut known.damaged)?;
+        return Ok(true);
     }
     let value = if kind % 3 == 2 {
         Vec::new(alloc)
@@ -272,22 +339,26 @@ fn chance<R: Threads + Sync>(
     let event = giving(alloc, state, 3 <= kind, name, value.as_slice())?;
     let outcome = after(rt, alloc, fleet, event)?;
     let done = outcome.done == 1;
-    acts.push(Gave { name, value, done })?;
-    Ok(())
+    known.acts.push(Gave { name, value, done })?;
+    Ok(true)
 }
 
 /// All names give what they may after a few events by chance.
 fn history<R: Threads + Sync>(rt: &R, alloc: Global, seed: u32) -> Result<bool, Fail> {
     let mut fleet = MemFleet::new(alloc, 4)?;
-    let mut acts = Vec::new(alloc);
+    let mut known = Known {
+        acts: Vec::new(alloc),
+        damaged: Vec::new(alloc),
+    };
     let mut state = seed;
     let mut good = true;
     for _ in 0..6 {
-        chance(rt, alloc, &mut fleet, &mut state, &mut acts)?;
+        let allowed = chance(rt, alloc, &mut fleet, &mut state, &mut known)?;
+        good = good && allowed;
         for name in 0..3u8 {
             let words = format!(in alloc; "get {}", letter(name))?;
             let bytes = got(rt, alloc, &mut fleet, words.as_str())?;
-            good = good && is_allowed(acts.as_slice(), name, bytes.bytes());
+            good = good && is_allowed(known.acts.as_slice(), name, bytes.bytes());
         }
     }
     Ok(good)

@@ -13,6 +13,7 @@ use Rattle.nc_cloud.specs.Contents.{Contents}
 use Rattle.nc_state.specs.Entries.{Entry}
 use Rattle.nc_state.specs.Vaults.{Vault, version_in}
 use Rattle.nc_state.specs.Versions.{Version, value_of}
+use Rattle.nc_state.specs.Versions.Version.{Never, Removed, Stored}
 use Rattle.nc_words.specs.declared.act.Act.{Act}
 use Rattle.nc_words.specs.declared.act.Act.TheVariants as act
 use Rattle.nc_words.specs.Acts.{Task}
@@ -28,22 +29,39 @@ use Rattle.nc_history.proofs.EntryLaws.{MayShow, after_shows, settled_shows}
 pub own_value : (own name : List ℕ) (value : Option (List ℕ)) → name ≡ own → (if bytes_eq own name then Some value else None) ≡ Some value
 own_value own name value is = ap (λ (b : Bool). if b then Some value else None) ((bytes_eq-Decides own name).1 (sym is))
 
-made_value : (n : ℕ) (task : Task) (F : Contents) (a : Act) (names : List (List ℕ)) (name : List ℕ) (x y : Version)
-    → WorksOn n F a names → Contains names name → MakesBy n task a name x y → new_value_by a task.bytes name ≡ Some (value_of y)
-made_value n task F (act.Put own) names name x y works among made =
+put_value : (n : ℕ) (task : Task) (own : List ℕ) (names : List (List ℕ)) (name : List ℕ) (x y : Version)
+    → names ≡ own ∷ [] → Contains names name → MakesBy n task (act.Put own) name x y → new_value_by (act.Put own) task.bytes name ≡ Some (value_of y)
+put_value n task own names name x y works among made =
     let here : name ≡ own = in_one own name (subst (λ (ns : List (List ℕ)). Contains ns name) works among) in
     own_value own name (Some task.bytes) here ∙ ap (λ (z : Version). Some (value_of z)) (sym made.made.is)
-made_value n task F (act.Remove own) names name x y works among made =
+
+removal_value : (n : ℕ) (task : Task) (own : List ℕ) (names : List (List ℕ)) (name : List ℕ) (x y : Version)
+    → names ≡ own ∷ [] → Contains names name → MakesBy n task (act.Remove own) name x y → new_value_by (act.Remove own) task.bytes name ≡ Some (value_of y)
+removal_value n task own names name x y works among made =
     let here : name ≡ own = in_one own name (subst (λ (ns : List (List ℕ)). Contains ns name) works among) in
     own_value own name None here ∙ ap (λ (z : Version). Some (value_of z)) (sym made.is)
+
+-- a repaired file has the bytes that it had
+repair_value : (n : ℕ) (task : Task) (i : ℕ) (name : List ℕ) (x y : Version) → MakesBy n task (act.Repair i) name x y → value_of y ≡ value_of x
+repair_value n task i name x y made = ap value_of made.made.is ∙ sym (ap value_of made.made.was)
+
+-- it has the value of the version that it was made of, or the one that the act gives
+made_value : (n : ℕ) (task : Task) (F : Contents) (a : Act) (names : List (List ℕ)) (name : List ℕ) (x y : Version) → WorksOn n F a names → Contains names name
+    → MakesBy n task a name x y → (value_of y ≡ value_of x) ⊎ (new_value_by a task.bytes name ≡ Some (value_of y))
+made_value n task F (act.Put own) names name x y works among made = inr (put_value n task own names name x y works among made)
+made_value n task F (act.Remove own) names name x y works among made = inr (removal_value n task own names name x y works among made)
+made_value n task F (act.Repair i) names name x y works among made = inl (repair_value n task i name x y made)
 made_value n task F other names name x y works among made = absurd made
 
 -- of one that it brings a name to
-brought_value : (n : ℕ) (task : Task) (F : Contents) (a : Act) (names : List (List ℕ)) (name : List ℕ) (x z : Version)
-    → WorksOn n F a names → Contains names name → BringsBy n task a name x z → (z ≡ x) ⊎ (new_value_by a task.bytes name ≡ Some (value_of z))
-brought_value n task F (act.Put own) names name x z works among made = inr (made_value n task F (act.Put own) names name x z works among made)
-brought_value n task F (act.Remove own) names name x z works among made = inr (made_value n task F (act.Remove own) names name x z works among made)
-brought_value n task F other names name x z works among same = inl same
+pub brought_value : (n : ℕ) (task : Task) (F : Contents) (a : Act) (names : List (List ℕ)) (name : List ℕ) (x z : Version) → WorksOn n F a names → Contains names name
+    → BringsBy n task a name x z → (value_of z ≡ value_of x) ⊎ (new_value_by a task.bytes name ≡ Some (value_of z))
+brought_value n task F (act.Put own) names name x z works among made = inr (put_value n task own names name x z works among made)
+brought_value n task F (act.Remove own) names name x z works among made = inr (removal_value n task own names name x z works among made)
+brought_value n task F (act.Repair i) names name (Stored old v) z works among made = inl (repair_value n task i name (Stored old v) z made)
+brought_value n task F (act.Repair i) names name Never z works among same = inl (ap value_of same)
+brought_value n task F (act.Repair i) names name (Removed generation) z works among same = inl (ap value_of same)
+brought_value n task F other names name x z works among same = inl (ap value_of same)
 
 -- ---- where a name is among those that an act works on
 
@@ -51,7 +69,7 @@ either_way : {P : Type 0} (b : Bool) → Decides b P → P ⊎ (P → ⊥)
 either_way true decides = inl (decides.0 refl)
 either_way false decides = inr (not_from_Decides false decides refl)
 
-in_or_out : (names : List (List ℕ)) (name : List ℕ) → Contains names name ⊎ (Contains names name → ⊥)
+pub in_or_out : (names : List (List ℕ)) (name : List ℕ) → Contains names name ⊎ (Contains names name → ⊥)
 in_or_out names name = either_way _ (is_member-Decides {eq = bytes_eq} bytes_eq-Decides names name)
 
 in_whole : (names : List (List ℕ)) (k : ℕ) (name : List ℕ) → Contains (take k names) name → Contains names name
@@ -82,7 +100,7 @@ module _ (n : ℕ) (task : Task) (V W : Vault) (names : List (List ℕ)) (works 
   done_shows done among =
       let is : shown ≡ value_of done.version = subst (λ (e : Entry). MayShow e shown) done.rests may in
       elim (brought_value n task V.contents task.act names name (version_in n V name) done.version works among done.brought) [
-        | inl same ↦ inl (subst (MayShow (V.entries name)) (sym (is ∙ ap value_of same)) (settled_shows n V.contents name (V.entries name)))
+        | inl same ↦ inl (subst (MayShow (V.entries name)) (sym (is ∙ same)) (settled_shows n V.contents name (V.entries name)))
         | inr gives ↦ inr (gives ∙ ap Some (sym is))
       ]
 
@@ -94,7 +112,10 @@ module _ (n : ℕ) (task : Task) (V W : Vault) (names : List (List ℕ)) (works 
         | inr was ↦
             let made : MakesBy n task task.act name (version_in n V name) was.version =
             subst (λ (m : Option Version). IfSome m (MakesBy n task task.act name (version_in n V name))) was.is way.makes in
-            inr (made_value n task V.contents task.act names name (version_in n V name) was.version works among made ∙ ap Some (sym was.value))
+            elim (made_value n task V.contents task.act names name (version_in n V name) was.version works among made) [
+              | inl same ↦ inl (subst (MayShow (V.entries name)) (sym (was.value ∙ same)) (settled_shows n V.contents name (V.entries name)))
+              | inr gives ↦ inr (gives ∙ ap Some (sym was.value))
+            ]
       ]
 
   reached_shows : (done : ℕ) → HasReached n task V W names done → MayShow (V.entries name) shown ⊎ (new_value task name ≡ Some shown)
@@ -147,9 +168,9 @@ works_here n F other bytes name names value gives works = absurd cc
 given_value : (n : ℕ) (task : Task) (F : Contents) (a : Act) (names : List (List ℕ)) (name : List ℕ) (x z : Version) (value : Option (List ℕ))
     → new_value_by a task.bytes name ≡ Some value → WorksOn n F a names → Contains names name → BringsBy n task a name x z → value_of z ≡ value
 given_value n task F (act.Put own) names name x z value gives works among made =
-    let same : Some (value_of z) ≡ Some value = sym (made_value n task F (act.Put own) names name x z works among made) ∙ gives in cc
+    let same : Some (value_of z) ≡ Some value = sym (put_value n task own names name x z works among made) ∙ gives in cc
 given_value n task F (act.Remove own) names name x z value gives works among made =
-    let same : Some (value_of z) ≡ Some value = sym (made_value n task F (act.Remove own) names name x z works among made) ∙ gives in cc
+    let same : Some (value_of z) ≡ Some value = sym (removal_value n task own names name x z works among made) ∙ gives in cc
 given_value n task F other names name x z value gives works among made = absurd cc
 
 pub given_shows : (n : ℕ) (task : Task) (V W : Vault) (name : List ℕ) (value shown : Option (List ℕ))

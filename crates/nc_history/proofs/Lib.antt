@@ -3,3 +3,4 @@ pub mod ActLaws
 pub mod HistoryLaws
 pub mod LossLaws
 pub mod GetLaws
+pub mod RepairLaws

@@ -8,7 +8,7 @@ use Rattle.nc_words.specs.Acts.{Task}
 use Rattle.nc_vault.specs.Vaults.{Begins}
 use Rattle.nc_vault.specs.Vaults.Begins.{not_yet, has_come}
 use Rattle.nc_run.specs.Standing.{BeginsNext, DoesAll}
-use Rattle.nc_history.specs.Histories.{Bears, Happening, HappensTo, LosesFew}
+use Rattle.nc_history.specs.Histories.{Bears, Happening, HappensTo, LosesFew, damaged_after}
 use Rattle.nc_history.specs.Histories.Happening.{Ran, Lost}
 use Rattle.nc_history.specs.Laws.{DamageIs, HistoryStands, LossLeads, LossesAreFew, RunLeads}
 
@@ -36,9 +36,9 @@ history_stands n (h ∷ hs) V W stands (U, happens, stood, later) = history_stan
 
 -- ---- damaged clouds
 
-done_damage : (n : ℕ) (tasks : List Task) (V W : Vault) → DoesAll n tasks V W → W.damaged ≡ V.damaged
+done_damage : (n : ℕ) (tasks : List Task) (V W : Vault) → DoesAll n tasks V W → W.damaged ≡ damaged_after tasks V.damaged
 done_damage n [] V W same = ap (λ (U : Vault). U.damaged) same
-done_damage n (task ∷ tasks) V W (U, does, stands, rest) = done_damage n tasks U W rest ∙ does.damaged
+done_damage n (task ∷ tasks) V W (U, does, stands, rest) = done_damage n tasks U W rest ∙ ap (λ (D : Clouds). damaged_after tasks D) does.damaged
 
 begun_damage : (n : ℕ) (task : Task) (done : ℕ) (V W : Vault) → Begins n task done V W → W.damaged ≡ V.damaged
 begun_damage n task done V W (not_yet none same) = ap (λ (U : Vault). U.damaged) same

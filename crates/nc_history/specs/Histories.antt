@@ -6,6 +6,7 @@ use Rattle.nc_state.specs.Losses.{Loses, weighed}
 use Rattle.nc_state.specs.Standing.{no_entry}
 use Rattle.nc_state.specs.Vaults.{IsVault, Vault}
 use Rattle.nc_words.specs.Acts.{Task}
+use Rattle.nc_vault.specs.Vaults.{still_damaged}
 use Rattle.nc_run.specs.Standing.{BeginsNext, DoesAll}
 
 -- A run does some acts and may begin another, at which it is stopped or ends; or a cloud is lost.
@@ -43,9 +44,14 @@ pub record StandsHappened (n : ℕ) (h : Happening) (V : Vault) (G : Contents) :
 
 -- ---- how many clouds are damaged
 
--- those of D and the one that was lost
+-- those of D that are still damaged once these acts were done
+abbrev pub damaged_after : List Task → Clouds → Clouds
+damaged_after [] D = D
+damaged_after (task ∷ tasks) D = damaged_after tasks (still_damaged task.act D)
+
+-- those that still are once this happened, and the one that was lost; an act that was begun and not done makes no cloud whole
 abbrev pub damaged_by : Happening → Clouds → Clouds
-damaged_by (Ran tasks next) D = D
+damaged_by (Ran tasks next) D = damaged_after tasks D
 damaged_by (Lost c) D = with_cloud D c
 
 -- any run is borne, and a loss that leaves at most two clouds damaged

@@ -1,8 +1,10 @@
 -- The laws of histories.
 use Rattle.std.specs.Prelude.{ℕ, ◌≡◌, ◌≤◌, Option, None, Some, List, [], Contains}
+use Rattle.nc_name.specs.Names.{IsName}
 use Rattle.nc_cloud.specs.Contents.{Contents}
 use Rattle.nc_state.specs.Losses.{Loses}
-use Rattle.nc_state.specs.Vaults.{IsVault, Vault}
+use Rattle.nc_state.specs.Vaults.{IsVault, Vault, version_in}
+use Rattle.nc_state.specs.Versions.{value_of}
 use Rattle.nc_words.specs.declared.act.Act.TheVariants as act
 use Rattle.nc_words.specs.Acts.{Task}
 use Rattle.nc_download.specs.declared.short.Bad.{Bad}
@@ -12,6 +14,7 @@ use Rattle.nc_vault.specs.declared.reply.Reply.TheVariants as reply
 use Rattle.nc_run.specs.Standing.{LeadsTo}
 use Rattle.nc_history.specs.Histories.{Bears, Happening, HappensTo, HistoryTo, LosesFew, StandsHappened, damaged_by, empty_vault}
 use Rattle.nc_history.specs.Histories.Happening.{Ran, Lost}
+use Rattle.nc_history.specs.Repairs.{DoesRepair, FilesAreGood, IsMadeWhole}
 use Rattle.nc_history.specs.Values.{GaveLast, GetIsAnswered, IsAllowed, MayStopGet, NoneGivesSince, since, unfinished}
 
 -- ---- what happens
@@ -108,3 +111,18 @@ RemovedIsGone = (n : ℕ) (hs : List Happening) (V W : Vault) (name v : List ℕ
     (gave : GaveLast name hs)
     → HistoryTo n hs V W → gave.task.act ≡ act.Remove name → unfinished (since gave) name ≡ []
     → GetIsAnswered n W name (reply.Bytes v) → ⊥
+
+-- ---- what a repair that was done leaves
+
+-- each file's code has a witness for each next loss
+abbrev pub RepairedIsGood : Type 0
+RepairedIsGood = (n i : ℕ) (task : Task) (V W : Vault) → DoesRepair n i task V W → FilesAreGood W
+
+-- the cloud isn't damaged, and the others are as they were
+abbrev pub RepairedIsWhole : Type 0
+RepairedIsWhole = (n i : ℕ) (task : Task) (V W : Vault) → DoesRepair n i task V W → IsMadeWhole i V W
+
+-- each name has the bytes that it had, or still no file
+abbrev pub RepairKeepsFiles : Type 0
+RepairKeepsFiles = (n i : ℕ) (task : Task) (V W : Vault) (name : List ℕ)
+    → DoesRepair n i task V W → IsName name → value_of (version_in n W name) ≡ value_of (version_in n V name)

@@ -1,6 +1,6 @@
 //! Laws of histories. Each function does nothing; its contract is the law, or some laws.
 
-ghost use Rattle.nc_history.specs.Laws.{DamageIs, EmptyVaultStands, EnoughAreGood, HistoryStands, LastDoneIsGot, LossLeads, LossesAreFew, NeverPutHasNoFile, NoFileIsRight, NoneDoneIsUnfinished, NothingElseStopsGet, PutIsFound, PutThenGet, RemovedIsGone, RunLeads};
+ghost use Rattle.nc_history.specs.Laws.{DamageIs, EmptyVaultStands, EnoughAreGood, HistoryStands, LastDoneIsGot, LossLeads, LossesAreFew, NeverPutHasNoFile, NoFileIsRight, NoneDoneIsUnfinished, NothingElseStopsGet, PutIsFound, PutThenGet, RemovedIsGone, RepairKeepsFiles, RepairedIsGood, RepairedIsWhole, RunLeads};
 
 // ---- what happens
 
@@ -26,7 +26,8 @@ pub fn history_stands()
     ensures { HistoryStands }
 {}
 
-/// A loss adds its cloud to the damaged ones. Nothing else changes them: there is no repair yet.
+/// A loss adds its cloud to the damaged ones, and a repair that was done takes its cloud from them.
+/// Nothing else changes them.
 pub fn losses_are_few()
     ensures damaged { DamageIs }
     ensures few { LossesAreFew }
@@ -75,4 +76,14 @@ pub fn put_then_get()
 /// The same of a removal.
 pub fn remove_then_get()
     ensures { RemovedIsGone }
+{}
+
+// ---- what a repair leaves
+
+/// A repair that was done leaves the clouds ready for the next loss: each file's code has a witness
+/// for each, and the repaired cloud isn't damaged. Every file has the bytes that it had.
+pub fn repair_leaves()
+    ensures good { RepairedIsGood }
+    ensures whole { RepairedIsWhole }
+    ensures files { RepairKeepsFiles }
 {}
