@@ -81,6 +81,19 @@ fn a_file_stands_in_folders(rt: HostRuntime) -> Result<(), Fail> {
     make_folders(&rt)?;
     let mut fleet = Fanned::new(rt, rt.alloc(), clouds_of(rt, Some(LIST))?)?;
     let scene = r#"
+        put photos.db < mixed:3000000 -> 0 Ok = generation:1
+        raze scratch_file/2
+        make scratch_file/2
+        repair 2 -> 0 Ok = "repaired·1¶"
+        has scratch_file/2/c-70686f746f732e6462-1-0
+        has scratch_file/2/c-70686f746f732e6462-1-1
+        lacks scratch_file/1/c-70686f746f732e6462-1-0
+        raze scratch_file/0
+        make scratch_file/0
+        raze scratch_file/3
+        make scratch_file/3
+        get photos.db -> 0 Ok = mixed:3000000
+        rm photos.db -> 0 Ok = generation:3
         put a < mixed:300000 -> 0 Ok = generation:1
         get a -> 0 Ok = mixed:300000
         write scratch_file/0/c-61-0-0
@@ -115,7 +128,7 @@ fn a_file_stands_in_folders(rt: HostRuntime) -> Result<(), Fail> {
         remove scratch_file/2/c-61-0-1
         make scratch_file/2/c-61-0-1
         get a -> 0 Ok = mixed:4
-        recover -> 0 Ok = "settled·1¶"
+        recover -> 0 Ok = "settled·2¶"
         raze scratch_file/3
         get a -> 0 Ok = mixed:4
         get b -> 3 Vault(NoFile)

@@ -59,6 +59,8 @@ mod player;
 #[cfg(test)]
 mod put_scenes;
 #[cfg(test)]
+mod repair_scenes;
+#[cfg(test)]
 mod running;
 #[cfg(test)]
 mod steps;
