@@ -1,0 +1,12 @@
+pub mod AskLaws
+pub mod CauseLaws
+pub mod DoneLaws
+pub mod FileLaws
+pub mod GetLaws
+pub mod MakeLaws
+pub mod ReadLaws
+pub mod RightLaws
+pub mod RoundLaws
+pub mod RowLaws
+pub mod ShortLaws
+pub mod TurnLaws
