@@ -34,6 +34,30 @@ show() {
     [ ! -s "$scratch/err" ] || { echo "    WRONG: it printed on standard error"; failed=1; }
 }
 
+# repair_counting WANTED CLOUD: a repair of this cloud, which must succeed and print "repaired 1", and read so many bytes and at most
+# 100,000 more, which are frames, metadata and what the start of the program reads. The system counts them.
+repair_counting() {
+    local count status
+    count=$(python3 - "$program" "$clouds" "$2" "$scratch/out" <<'PYTHON'
+import os, subprocess, sys
+
+program, clouds, cloud, output = sys.argv[1:]
+with open(output, "wb") as sink:
+    child = subprocess.Popen([program, clouds, "repair", cloud], stdin=subprocess.DEVNULL, stdout=sink)
+    os.waitid(os.P_PID, child.pid, os.WEXITED | os.WNOWAIT)
+    with open(f"/proc/{child.pid}/io") as counts:
+        print(counts.readline().split()[1])
+sys.exit(child.wait())
+PYTHON
+    )
+    status=$?
+    printf 'status %-3s %s\n' "$status" "repair of cloud $2, which lost all its objects: it read $count bytes"
+    [ "$status" = 0 ] || { echo "    WRONG: 0 was wanted"; failed=1; }
+    [ "$1" -le "$count" ] && [ "$count" -le $(($1 + 100000)) ] || { echo "    WRONG: little more than $1 bytes were to be read"; failed=1; }
+    echo "repaired 1" >"$scratch/repaired"
+    same "$scratch/repaired"
+}
+
 # same FILE: whether the last command gave exactly this.
 same() {
     if cmp -s "$1" "$scratch/out"; then echo "           the output is as it should be"; else echo "    WRONG: other output"; failed=1; fi
@@ -72,13 +96,32 @@ for width in 4 7 10; do
     show 0 "get of it" "$scratch/empty" get report
     same "$big"
     [ "$width" != 4 ] || (cd "$scratch" && ls -l cloud? | sed 's/^/           /')
-    rm "$scratch"/cloud1/* "$scratch"/cloud$width/*
+    rm "$scratch"/cloud2/*
+    echo "repaired 1" >"$scratch/repaired"
+    show 0 "repair of a cloud that lost all its objects: from one chunk of each other cloud" "$scratch/empty" repair 1
+    same "$scratch/repaired"
+    plainly "$big" report repaired 1
+    rm "$scratch"/cloud1/*
+    show 0 "repair of another one then" "$scratch/empty" repair 0
+    same "$scratch/repaired"
+    plainly "$big" report repaired 1,0
+    rm "$scratch"/cloud3/* "$scratch"/cloud$width/*
     show 0 "get of it after two clouds lost all their objects" "$scratch/empty" get report
     same "$big"
+    show 10 "repair while another cloud is lost too, whose chunk it needs" "$scratch/empty" repair 2
     rm "$scratch"/cloud2/c-*
     show 5 "get of it after a third one lost its chunks: too few are good" "$scratch/empty" get report
     same "$scratch/empty"
 done
+new_clouds 4
+head -c 3000000 /dev/urandom >"$scratch/photos"
+show 0 "put of 3,000,000 bytes on 4 clouds: two chunks of 750,000 bytes on each" "$scratch/photos" put photos.db
+same "$scratch/said"
+rm "$scratch"/cloud3/*
+repair_counting 2250000 2
+rm "$scratch"/cloud1/* "$scratch"/cloud4/*
+show 0 "get of it after two other clouds lost all their objects" "$scratch/empty" get photos.db
+same "$scratch/photos"
 new_clouds 4
 show 0 "put of no bytes" "$scratch/empty" put empty
 plainly "$scratch/empty" empty
@@ -126,6 +169,7 @@ show 0 "recover: all names are at rest, the removed one too" "$scratch/empty" re
 same "$scratch/said"
 show 2 "no words but the clouds: no command" "$scratch/empty"
 show 2 "put without a name: no command" "$scratch/empty" put
+show 2 "repair of a cloud that isn't there: no command" "$scratch/empty" repair 4
 show 2 "an unknown word: no command" "$scratch/empty" stow empty
 show 2 "put of an empty name: no name" "$scratch/empty" put ""
 show 2 "put of a name with a line feed: no name" "$scratch/empty" put $'a\nb'

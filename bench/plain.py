@@ -1,7 +1,8 @@
 #!/usr/bin/env python3
-"""Writes the objects that stand on each cloud after puts of a name, or a removal, as docs/FORMATS.md describes them:
+"""Writes the objects that stand on each cloud after puts of a name, repairs of it, or a removal, as docs/FORMATS.md describes them:
 
     plain.py FOLDER,FOLDER,.. NAME [GENERATION] < FILE      the file, as this version of a name that puts alone made (else as the first)
+    plain.py FOLDER,FOLDER,.. NAME repaired CLOUD,.. < FILE the file, put as the first version, after repairs of these clouds in turn
     plain.py FOLDER,FOLDER,.. NAME GENERATION removed       the name, removed as this version
 
 It shares no code with the program, and is as plain as it can be. Codes are drawn as the program draws them where nothing
@@ -75,9 +76,15 @@ def repaired(rows, lost, plan):
     return rows[:2 * lost] + new + rows[2 * lost + 2:]
 
 
-def read_plan(width, data):
-    """The plan of plan bytes, where the base is 0."""
-    return bytes(position == data[0] % 16 for position in range(width - 1)) + data[1:]
+def read_plan(base, data):
+    """The plan of plan bytes: the base has a choice for each survivor, of which one is turned over."""
+    return bytes(choice ^ (position == data[0] % 16) for position, choice in enumerate(base)) + data[1:]
+
+
+def first_witness(rows, lost, base, tries):
+    """The first plan of these tries after which any two clouds may be lost."""
+    plans = (read_plan(base, data) for data in tries)
+    return next((plan for plan in plans if is_mds(repaired(rows, lost, plan))), None)
 
 
 # ---- draws
@@ -125,8 +132,7 @@ def candidate(width, key, index):
     plans = []
     for lost in range(width):
         starts = (2 * width * natives + (16 * lost + number) * each for number in range(16))
-        tries = (read_plan(width, block[start:start + each]) for start in starts)
-        plan = next((plan for plan in tries if is_mds(repaired(rows, lost, plan))), None)
+        plan = first_witness(rows, lost, bytes(width - 1), (block[start:start + each] for start in starts))
         if plan is None:
             return None
         plans.append(plan)
@@ -139,6 +145,35 @@ def find_start(width, key, budget):
         good = candidate(width, key, index)
         if good:
             return index, *good
+    sys.exit(f"none of {budget} candidates is good")
+
+
+def repair_candidate(rows, stored, lost, key, index):
+    """The rows after a repair by a candidate and the plan for each loss then, where it is good."""
+    width = len(rows) // 2
+    each = 1 + 2 * (width - 1)
+    block = candidate_block(key, index, each + 16 * (width - 1) * each)
+    plan = read_plan(stored[:width - 1], block[:each]) if index else stored
+    rows = repaired(rows, lost, plan)
+    if not is_mds(rows):
+        return None
+    turned = [1 - choice for choice in plan[:width - 1]]
+    turned.insert(lost, 0)
+    plans = []
+    for position, loss in enumerate(cloud for cloud in range(width) if cloud != lost):
+        starts = (each + (16 * position + number) * each for number in range(16))
+        base = turned[:loss] + turned[loss + 1:]
+        plans.append(first_witness(rows, loss, base, (block[start:start + each] for start in starts)))
+    plans.insert(lost, plan)
+    return None if None in plans else (rows, plans)
+
+
+def find_repair(rows, plans, lost, key, budget):
+    """The rows and the plans after the first good candidate for the repair of a cloud."""
+    for index in range(budget):
+        good = repair_candidate(rows, plans[lost], lost, key, index)
+        if good:
+            return good
     sys.exit(f"none of {budget} candidates is good")
 
 
@@ -156,24 +191,24 @@ def frame(cloud, width, key, payload):
     return bare + sha256(bare).digest()
 
 
-def metadata(width, generation, slot, rows, plans, length, chunks):
+def metadata(generation, slots, rows, plans, length, chunks):
     head = b"NCM1" + bytes([1]) + pack(">QQ", generation, length)
     marks = b"".join(sha256(chunk).digest() for chunk in chunks)
-    return head + b"".join(rows) + bytes([slot] * width) + marks + bytes([bool(plans)]) + b"".join(plans)
+    return head + b"".join(rows) + bytes(slots) + marks + bytes([bool(plans)]) + b"".join(plans)
 
 
 def framed(cloud, width, payloads):
     return {key: frame(cloud, width, key.encode(), payloads[key]) for key in payloads}
 
 
-def objects(generation, rows, plans, name, data):
-    """What each cloud holds of a file: frames by their keys' texts. The first version has its chunks in slot 0, the next in slot 1."""
-    width, slot = len(rows) // 2, (generation + 1) % 2
+def objects(generation, slots, rows, plans, name, data):
+    """What each cloud holds of a file: frames by their keys' texts."""
+    width = len(rows) // 2
     natives = cut(width, data)
     chunks = [combination(row, natives) for row in rows]
-    payload = metadata(width, generation, slot, rows, plans, len(data), chunks)
+    payload = metadata(generation, slots, rows, plans, len(data), chunks)
     clouds = []
-    for cloud in range(width):
+    for cloud, slot in enumerate(slots):
         payloads = {f"c-{name.hex()}-{slot}-{row}": chunks[2 * cloud + row] for row in (0, 1)}
         payloads[f"m-{name.hex()}-{generation % 2}"] = payload
         clouds.append(framed(cloud, width, payloads))
@@ -186,14 +221,29 @@ def removed(width, generation, name):
     return [framed(cloud, width, {f"m-{name.hex()}-{generation % 2}": payload}) for cloud in range(width)]
 
 
+def repaired_objects(width, name, losses, data):
+    """What they hold after repairs of these clouds. Each turns over the slot of its cloud."""
+    _, rows, plans = find_start(width, draw_key(SEED, name, 1), BUDGET)
+    slots = [0] * width
+    for generation, lost in enumerate(losses, 2):
+        rows, plans = find_repair(rows, plans, lost, draw_key(SEED, name, generation), BUDGET)
+        slots[lost] ^= 1
+    return objects(1 + len(losses), slots, rows, plans, name, data)
+
+
 def main():
     folders, name = sys.argv[1].split(","), sys.argv[2].encode()
-    generation = int(sys.argv[3]) if sys.argv[3:] else 1
+    width = len(folders)
     if sys.argv[4:] == ["removed"]:
-        clouds = removed(len(folders), generation, name)
+        clouds = removed(width, int(sys.argv[3]), name)
+    elif sys.argv[3:4] == ["repaired"]:
+        losses = [int(cloud) for cloud in sys.argv[4].split(",")]
+        clouds = repaired_objects(width, name, losses, sys.stdin.buffer.read())
     else:
-        _, rows, plans = find_start(len(folders), draw_key(SEED, name, generation), BUDGET)
-        clouds = objects(generation, rows, plans, name, sys.stdin.buffer.read())
+        generation = int(sys.argv[3]) if sys.argv[3:] else 1
+        _, rows, plans = find_start(width, draw_key(SEED, name, generation), BUDGET)
+        slots = [(generation + 1) % 2] * width  # the first version has its chunks in slot 0, the next in slot 1
+        clouds = objects(generation, slots, rows, plans, name, sys.stdin.buffer.read())
     for folder, held in zip(folders, clouds):
         for key, bytes_of in held.items():
             with open(f"{folder}/{key}", "wb") as file:

@@ -1,5 +1,5 @@
 #!/usr/bin/env bash
-# Times `put` and `get` of 64 MiB and of a byte on 4 and on 10 folders, with two of them lost too, beside other programs, in turn.
+# Times `put` and `get` of 64 MiB and of a byte on 4 and on 10 folders and `repair` of 64 MiB, beside other programs, in turn.
 # bench/README.md says what it means.
 set -eu
 cd "$(dirname "$0")/.."
@@ -18,13 +18,24 @@ with open(byte, "wb") as sink:
     sink.write(b"x")
 folders = {width: [f"{scratch}/of{width}/cloud{number}" for number in range(width)] for width in (4, 10)}
 lost = [f"{scratch}/lost{number}" for number in range(2)]
+# vaults that hold the file alone, and have lost cloud 0
+repaired, again = ({width: [f"{scratch}/{use}{width}/cloud{number}" for number in range(width)] for width in (4, 10)} for use in ("repaired", "again"))
+damaged = [repaired[4], repaired[10], again[4], again[10]]
 
 
-def empty_all():
-    """All folders that the commands write to are there, and empty."""
-    for folder in [others, *lost, *folders[4], *folders[10]]:
-        shutil.rmtree(folder, ignore_errors=True)
-        os.makedirs(folder)
+def empty(folder):
+    shutil.rmtree(folder, ignore_errors=True)
+    os.makedirs(folder)
+
+
+def prepare():
+    """All folders that the commands write to are there, and empty but for the vaults that have lost cloud 0."""
+    for folder in [others, *lost, *folders[4], *folders[10], *sum(damaged, [])]:
+        empty(folder)
+    for clouds in damaged:
+        with open(file, "rb") as source:
+            subprocess.run([program, ",".join(clouds), "put", "file"], stdin=source, stdout=subprocess.DEVNULL, check=True)
+        empty(clouds[0])
 
 
 # what is timed, by name: the words, and the input
@@ -36,6 +47,14 @@ for width in (4, 10):
             commands[f"{title}{what}, {width} clouds"] = ([program, clouds, command, os.path.basename(given)], given)
     left = ",".join(lost + folders[width][2:])
     commands[f"get, two of {width} clouds lost"] = ([program, left, "get", "file"], file)
+get_and_put = '"$0" "$1" get file >"$2" && "$0" "$1" put file <"$2"'
+for width in (4, 10):
+    read_by_repair = f"{scratch}/read{width}"
+    shutil.copyfile(file, read_by_repair)
+    os.truncate(read_by_repair, (width - 1) * -(-size // (2 * (width - 2))))
+    commands[f"repair, {width} clouds"] = ([program, ",".join(repaired[width]), "repair", "0"], byte)
+    commands[f"get and put again, {width} clouds"] = (["sh", "-c", get_and_put, program, ",".join(again[width]), others + "/back"], byte)
+    commands[f"sha256sum of what a repair reads, {width} clouds"] = (["sha256sum"], read_by_repair)
 commands["sha256sum"] = (["sha256sum"], file)
 commands["cp"] = (["cp", file, others + "/cp"], file)
 commands["cp and sync"] = (["sh", "-c", 'cp "$0" "$1" && sync "$1"', file, others + "/synced"], file)
@@ -65,7 +84,7 @@ seconds = {name: [] for name in commands}
 read = {}
 peaks = {name: 0 for name in commands}
 for _ in range(runs):
-    empty_all()
+    prepare()
     for name, (words, given) in commands.items():
         with open(given, "rb") as source:
             start = time.perf_counter()
@@ -84,5 +103,5 @@ for word in sorted(absent):
 beside = min(seconds["sha256sum"])
 for name in commands:
     least = min(seconds[name])
-    print(f"{name:32} {least * 1000:8.1f} ms   {least / beside:6.2f} x sha256sum   reads {read[name] / size:5.2f} x the file   peak {peaks[name] / 1024:5.0f} MiB")
+    print(f"{name:44} {least * 1000:8.1f} ms   {least / beside:6.2f} x sha256sum   reads {read[name] / size:5.2f} x the file   peak {peaks[name] / 1024:5.0f} MiB")
 PYTHON
