@@ -1,4 +1,4 @@
-//! Tests of the crates that look for files, settle, write and repair them, over clouds in memory. They stand apart, so that
+//! Tests of the crates that look for files, settle, write, repair and restore them, over clouds in memory. They stand apart, so that
 //! the tested crates aren't proved once more with them.
 #![tactic(auto)]
 
@@ -9,6 +9,10 @@ mod look_tests;
 #[cfg(test)]
 mod repair_tests;
 #[cfg(test)]
+mod restore_tests;
+#[cfg(test)]
 mod settle_tests;
+#[cfg(test)]
+mod stored;
 #[cfg(test)]
 mod write_tests;

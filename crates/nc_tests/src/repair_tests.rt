@@ -1,36 +1,21 @@
 //! The chunks of a lost cloud are made anew: which chunks that reads, what it leaves, and what it refuses.
-ghost use Rattle.std.specs.Prelude.{◌≡◌, ◌<◌, IfSome};
+ghost use Rattle.std.specs.Prelude.{◌≡◌};
 ghost use Rattle.nc_code.specs.Codes.{repaired as repaired_code};
-ghost use Rattle.nc_memory.specs.Memory.{width_of};
-ghost use Rattle.nc_meta.specs.Metas.{IsLive, IsMeta};
+ghost use Rattle.nc_meta.specs.Metas.{IsLive};
 
-use crate::codes::{good_code, shown};
+use crate::codes::shown;
+use crate::stored::{gets, has_chunk, lose, stored};
 use nc_code::Plan;
 use nc_download::How;
 use nc_fetch::fetch;
-use nc_memory::{Damage, KeyFates, MemFleet, Torn};
-use nc_meta::{Live, Meta};
-use nc_name::{Key, Memory, Name};
+use nc_memory::{MemFleet, Torn};
+use nc_meta::Live;
+use nc_name::{Key, Name};
 use nc_nextloss::GoodCode;
 use nc_repair::{RepairFault, repair_one};
 use nc_search::{Mend, find_repair};
-use nc_settle::Settled;
-use nc_write::put;
-use std::alloc::Global;
 use std::process::Abort;
 use std::test::Fail;
-use std::thread::Threads;
-
-/// The metadata of the file that a name is settled on.
-fn live_of(rt: &impl Abort, settled: &Settled) -> Live
-    requires { IfSome settled.now.top (IsMeta 4) }
-    ensures { IsLive 4 result }
-{
-    match &settled.top {
-        Some(Meta::Live(live)) => *live,
-        _ => panic!(rt; "there is a file"),
-    }
-}
 
 /// A plan for the loss of cloud 1, and the code after the repair by it.
 fn new_code(rt: &impl Abort, live: &Live) -> (Plan, GoodCode)
@@ -42,53 +27,6 @@ fn new_code(rt: &impl Abort, live: &Live) -> (Plan, GoodCode)
         Mend::Found { plan, good, .. } => (plan, good),
         Mend::Spent(_) => panic!(rt; "a code is found"),
     }
-}
-
-/// The file "abcdefgh" is stored under the name, and cloud 1 loses all that it holds.
-fn stored<R: Threads + Sync + Abort>(
-    rt: &R,
-    alloc: Global,
-    fleet: &mut MemFleet,
-    name: &Name,
-) -> Live
-    requires { width_of fleet.old ≡ 4 }
-    ensures width { width_of fleet.new ≡ 4 }
-    ensures live { IsLive 4 result }
-{
-    let never = Settled { top: None };
-    let good = good_code(rt);
-    let settled = match put(rt, alloc, fleet, name, &never, &good, b"abcdefgh", 1) {
-        Ok(settled) => settled,
-        Err(fault) => panic!(rt; "{fault:?}"),
-    };
-    match lose(alloc, fleet, 1) {
-        Ok(()) => live_of(rt, &settled),
-        Err(Memory) => panic!(rt; "there is memory"),
-    }
-}
-
-/// A cloud loses all that it holds.
-fn lose(alloc: Global, fleet: &mut MemFleet, cloud: u8) -> Result<(), Memory>
-    requires within { cloud < 4 }
-    requires width { width_of fleet.old ≡ 4 }
-    ensures { width_of fleet.new ≡ 4 }
-{
-    let rest = Torn::Gone;
-    let except = KeyFates::new(alloc);
-    fleet.lose(cloud, &Damage { rest, except })
-}
-
-/// Whether there is an object where a chunk of the name stands.
-fn has_chunk(fleet: &MemFleet, cloud: u8, name: &Name, slot: u8, row: u8) -> bool {
-    let name = *name;
-    fleet
-        .object(cloud, &Key::Chunk { name, slot, row })
-        .is_some()
-}
-
-/// How many chunks each cloud has given.
-fn gets(fleet: &MemFleet) -> [u64; 4] {
-    [fleet.gets(0), fleet.gets(1), fleet.gets(2), fleet.gets(3)]
 }
 
 #[test]
