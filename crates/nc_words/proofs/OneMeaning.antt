@@ -18,24 +18,32 @@ bad_name n words text a cause names means refuses = record { command = command.A
 
 -- ---- words mean one command
 
--- the command that words with this first letter are, where they are one
+-- the command that a word with this first letter is, where it is one
 read_one : ℕ → Option Command
-read_one letter = if letter == 108 then Some (command.Act act.List) else Some (command.Act act.Recover)
+read_one letter =
+    if letter == 108 then Some (command.Act act.List) else if letter == 115 then Some (command.Act act.Scrub)
+    else Some (command.Act act.Recover)
 
--- the command that a word with these first two letters and a text are, where they are one
-read_two : ℕ → ℕ → List ℕ → Option Command
-read_two letter next text =
+-- the command that a word with these first three letters and a text are, where they are one
+read_two : ℕ → ℕ → ℕ → List ℕ → Option Command
+read_two letter next third text =
     if letter == 112 then Some (command.Act (act.Put text)) else if letter == 103 then Some (command.Act (act.Get text))
-    else if letter == 115 then Some (command.Act (act.Stat text))
-    else if next == 101 then Some (command.Act (act.Repair (digits_value 10 text))) else Some (command.Act (act.Remove text))
+    else if letter == 115 then Some (command.Act (act.Stat text)) else if next == 109 then Some (command.Act (act.Remove text))
+    else if third == 112 then Some (command.Act (act.Repair (digits_value 10 text)))
+    else Some (command.Act (act.Restore (digits_value 10 text) None))
+
+-- the command that three words with these last two are, where they are one
+read_three : List ℕ → List ℕ → Option Command
+read_three text other = Some (command.Act (act.Restore (digits_value 10 text) (Some (digits_value 10 other))))
 
 read_as : List (List ℕ) → Option Command
 read_as [] = None
 read_as (word ∷ []) = read_one (slice_index word 0)
-read_as (word ∷ text ∷ words) = read_two (slice_index word 0) (slice_index word 1) text
+read_as (word ∷ text ∷ []) = read_two (slice_index word 0) (slice_index word 1) (slice_index word 2) text
+read_as (word ∷ text ∷ other ∷ words) = read_three text other
 
 means_read : (n : ℕ) (words : List (List ℕ)) (c : Command) → Means n words c → read_as words ≡ Some c
-unfolding read_as read_two read_one
+unfolding read_as read_three read_two read_one
 means_read n words (command.Act (act.Put name)) is = ap read_as is
 means_read n words (command.Act (act.Get name)) is = ap read_as is
 means_read n words (command.Act (act.Remove name)) is = ap read_as is
@@ -44,6 +52,15 @@ means_read n words (command.Act act.List) is = ap read_as is
 means_read n words (command.Act (act.Repair cloud)) asks =
     let repair : ℕ → Option Command = λ c. Some (command.Act (act.Repair c)) in
     ap read_as asks.words_are ∙ ap repair (sym asks.number.number.value_is)
+means_read n words (command.Act (act.Restore first None)) asks =
+    let restore : ℕ → Option Command = λ c. Some (command.Act (act.Restore c None)) in
+    ap read_as asks.words_are ∙ ap restore (sym asks.number.number.value_is)
+means_read n words (command.Act (act.Restore first (Some second))) asks =
+    let restore : ℕ → ℕ → Option Command = λ c d. Some (command.Act (act.Restore c (Some d))) in
+    let value : ℕ = digits_value 10 asks.other in
+    let one : restore (digits_value 10 asks.text) value ≡ restore first value = ap (λ c. restore c value) (sym asks.number.number.value_is) in
+    ap read_as asks.words_are ∙ one ∙ ap (restore first) (sym asks.other_number.number.value_is)
+means_read n words (command.Act act.Scrub) is = ap read_as is
 means_read n words (command.Act act.Recover) is = ap read_as is
 
 pub one_command : WordsMeanOne

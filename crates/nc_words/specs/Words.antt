@@ -1,5 +1,5 @@
 -- What the words of a run mean.
-use Rattle.std.specs.Prelude.{ℕ, ◌≡◌, Option, Some, List, [], ◌∷◌, IfSome, codes}
+use Rattle.std.specs.Prelude.{ℕ, ◌≡◌, ◌≢◌, Option, Some, None, List, [], ◌∷◌, IfSome, codes}
 use Rattle.nc_name.specs.Names.{IsName, RefusesName}
 use Rattle.nc_name.specs.declared.name.NameFault.{NameFault}
 use Rattle.nc_words.specs.declared.act.Act.TheVariants as act
@@ -18,6 +18,21 @@ pub record AsksRepair (n : ℕ) (words : List (List ℕ)) (cloud : ℕ) : Type 0
   pub words_are : words ≡ codes "repair" ∷ text ∷ []
   pub number : IsCloudNumber n text cloud
 
+-- the words ask for a restore of this one cloud of n
+pub record AsksRestore (n : ℕ) (words : List (List ℕ)) (cloud : ℕ) : Type 0 where
+  pub text : List ℕ
+  pub words_are : words ≡ codes "restore" ∷ text ∷ []
+  pub number : IsCloudNumber n text cloud
+
+-- the words ask for a restore of these two clouds of n, which differ, whatever their numbers' texts
+pub record AsksRestoreOfTwo (n : ℕ) (words : List (List ℕ)) (first second : ℕ) : Type 0 where
+  pub text : List ℕ
+  pub other : List ℕ
+  pub words_are : words ≡ codes "restore" ∷ text ∷ other ∷ []
+  pub number : IsCloudNumber n text first
+  pub other_number : IsCloudNumber n other second
+  pub differ : second ≢ first
+
 -- the words ask n clouds for this, the rule on names aside
 abbrev pub Means : ℕ → List (List ℕ) → Command → Type 0
 Means n words (Act (act.Put name)) = words ≡ codes "put" ∷ name ∷ []
@@ -26,6 +41,9 @@ Means n words (Act (act.Remove name)) = words ≡ codes "rm" ∷ name ∷ []
 Means n words (Act (act.Stat name)) = words ≡ codes "stat" ∷ name ∷ []
 Means n words (Act act.List) = words ≡ codes "ls" ∷ []
 Means n words (Act (act.Repair cloud)) = AsksRepair n words cloud
+Means n words (Act (act.Restore first None)) = AsksRestore n words first
+Means n words (Act (act.Restore first (Some second))) = AsksRestoreOfTwo n words first second
+Means n words (Act act.Scrub) = words ≡ codes "scrub" ∷ []
 Means n words (Act act.Recover) = words ≡ codes "recover" ∷ []
 
 -- the name that a command is about, where it is about one

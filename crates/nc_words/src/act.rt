@@ -16,6 +16,10 @@ pub enum Act {
     Stat(Name),
     /// Makes this cloud whole again: of each file, from one chunk of each other cloud.
     Repair(u8),
+    /// Makes this cloud, or these two, whole again from the files themselves.
+    Restore { first: u8, second: Option<u8> },
+    /// Tells what isn't right, and changes nothing.
+    Scrub,
     /// Brings all names to rest.
     Recover,
 }

@@ -2,6 +2,7 @@
 
 use crate::{Act, Command, Request, WordFault, read_words};
 use nc_name::NameFault;
+use std::alloc::Global;
 use std::test::Fail;
 
 #[test]
@@ -21,6 +22,13 @@ fn words_ask_for_an_act_or_nothing(rt: HostRuntime) -> Result<(), Fail> {
         ("repair", "Usage"),
         ("repair 1 2", "Usage"),
         ("repair recover", "Usage"),
+        ("restore 1", "Restore"),
+        ("restore 1 2", "Restore"),
+        ("restore", "Usage"),
+        ("restore 1 2 3", "Usage"),
+        ("put 1 2", "Usage"),
+        ("scrub", "Scrub"),
+        ("scrub 1", "Usage"),
         ("put", "Usage"),
         ("PUT a", "Usage"),
         ("", "Usage"),
@@ -28,10 +36,7 @@ fn words_ask_for_an_act_or_nothing(rt: HostRuntime) -> Result<(), Fail> {
         ("get a\tb", "Control"),
         ("remove \t", "Usage"),
     ] {
-        let mut words = Vec::new(alloc);
-        for word in line.split(' ') {
-            words.push(String::from_str(alloc, word)?)?;
-        }
+        let words = split(alloc, line)?;
         assert_eq!(rt; asked(read_words(words.as_slice(), 4)), want, "{line}");
     }
     assert_eq!(rt; asked(read_words(&[], 4)), "Usage");
@@ -64,6 +69,36 @@ fn a_repair_is_of_a_cloud_by_its_number(rt: HostRuntime) -> Result<(), Fail> {
     Ok(())
 }
 
+#[test]
+fn a_restore_is_of_one_cloud_or_of_two_that_differ(rt: HostRuntime) -> Result<(), Fail> {
+    let alloc = rt.alloc();
+    for (line, want) in [
+        ("restore 3", Some((3, None))),
+        ("restore 0 3", Some((0, Some(3)))),
+        ("restore 03 00", Some((3, Some(0)))),
+        ("restore 4", None),
+        ("restore 4 1", None),
+        ("restore 1 4", None),
+        ("restore 1 1", None),
+        ("restore 1 01", None),
+        ("restore 1 ", None),
+        ("restore 1 +2", None),
+    ] {
+        let words = split(alloc, line)?;
+        assert_eq!(rt; restored(read_words(words.as_slice(), 4)), want, "{line}");
+    }
+    Ok(())
+}
+
+/// The words of a line, of which one may be empty.
+fn split(alloc: Global, line: &str) -> Result<Vec<String>, Fail> {
+    let mut words = Vec::new(alloc);
+    for word in line.split(' ') {
+        words.push(String::from_str(alloc, word)?)?;
+    }
+    Ok(words)
+}
+
 /// The cloud of a repair, or none at a fault of usage.
 fn cloud_of(read: Result<Request, WordFault>) -> Option<u8> {
     match read {
@@ -73,6 +108,18 @@ fn cloud_of(read: Result<Request, WordFault>) -> Option<u8> {
         },
         Err(WordFault::Usage) => None,
         Err(WordFault::Name(_)) => Some(255),
+    }
+}
+
+/// The clouds of a restore, or none at a fault of usage.
+fn restored(read: Result<Request, WordFault>) -> Option<(u8, Option<u8>)> {
+    match read {
+        Ok(request) => match request.command {
+            Command::Act(Act::Restore { first, second }) => Some((first, second)),
+            Command::Act(_) => Some((255, None)),
+        },
+        Err(WordFault::Usage) => None,
+        Err(WordFault::Name(_)) => Some((255, None)),
     }
 }
 
@@ -86,6 +133,8 @@ fn asked(read: Result<Request, WordFault>) -> &'static str {
             Command::Act(Act::List) => "List",
             Command::Act(Act::Stat(_)) => "Stat",
             Command::Act(Act::Repair(_)) => "Repair",
+            Command::Act(Act::Restore { .. }) => "Restore",
+            Command::Act(Act::Scrub) => "Scrub",
             Command::Act(Act::Recover) => "Recover",
         },
         Err(WordFault::Usage) => "Usage",

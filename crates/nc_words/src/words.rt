@@ -11,7 +11,8 @@ use thiserror::Error;
 /// Why the words ask for nothing.
 #[derive(Clone, Copy, Debug, Error)]
 pub enum WordFault {
-    /// They aren't one of the commands with exactly its arguments. A number that is no cloud's is no argument.
+    /// They aren't one of the commands with exactly its arguments. A number that is no cloud's is no argument, and two numbers of
+    /// one cloud aren't two.
     #[error("the words are no command with its arguments")]
     Usage,
     /// They are, but the name isn't one.
@@ -39,16 +40,18 @@ fn read_command(words: &[String], width: u8) -> Result<Command, WordFault>
     ensures fault { IfErr result (RefusesWords width (map string_bytes words.now)) }
 {
     if let Some(word) = one_word(words) {
-        if word == "ls" {
-            return Ok(Command::Act(Act::List));
-        }
-        if word == "recover" {
-            return Ok(Command::Act(Act::Recover));
-        }
-        return Err(WordFault::Usage);
+        return match word {
+            "ls" => Ok(Command::Act(Act::List)),
+            "scrub" => Ok(Command::Act(Act::Scrub)),
+            "recover" => Ok(Command::Act(Act::Recover)),
+            _ => Err(WordFault::Usage),
+        };
     }
-    match two_words(words) {
-        Some((word, text)) => read_pair(word, text, width),
+    if let Some((word, text)) = two_words(words) {
+        return read_pair(word, text, width);
+    }
+    match three_words(words) {
+        Some((word, first, second)) => read_triple(word, first, second, width),
         None => Err(WordFault::Usage),
     }
 }
@@ -64,6 +67,15 @@ fn read_pair(word: &str, text: &str, width: u8) -> Result<Command, WordFault>
             None => Err(WordFault::Usage),
         };
     }
+    if word == "restore" {
+        return match read_cloud(text, width) {
+            Some(first) => Ok(Command::Act(Act::Restore {
+                first,
+                second: None,
+            })),
+            None => Err(WordFault::Usage),
+        };
+    }
     let name = Name::read(text);
     let made = match word {
         "put" => name.map(Act::Put),
@@ -76,6 +88,26 @@ fn read_pair(word: &str, text: &str, width: u8) -> Result<Command, WordFault>
         Ok(act) => Ok(Command::Act(act)),
         Err(cause) => Err(WordFault::Name(cause)),
     }
+}
+
+/// The command that three words are: one about two clouds, whose numbers differ.
+fn read_triple(word: &str, text: &str, other: &str, width: u8) -> Result<Command, WordFault>
+    ensures command { IfOk result (IsCommand width (word.now ∷ text.now ∷ other.now ∷ [])) }
+    ensures fault { IfErr result (RefusesWords width (word.now ∷ text.now ∷ other.now ∷ [])) }
+{
+    if word != "restore" {
+        return Err(WordFault::Usage);
+    }
+    let (Some(first), Some(second)) = (read_cloud(text, width), read_cloud(other, width)) else {
+        return Err(WordFault::Usage);
+    };
+    if first == second {
+        return Err(WordFault::Usage);
+    }
+    Ok(Command::Act(Act::Restore {
+        first,
+        second: Some(second),
+    }))
 }
 
 /// The word, where there is one.
@@ -96,6 +128,19 @@ fn two_words(words: &[String]) -> Option<(&str, &str)>
 {
     match words {
         [first, second] => Some((first.as_str(), second.as_str())),
+        _ => None,
+    }
+}
+
+/// The words, where there are three.
+fn three_words(words: &[String]) -> Option<(&str, &str, &str)>
+    ensures some { IfSome result
+        (λ three. map string_bytes words.now ≡ three.0.now ∷ three.1.now ∷ three.2.now ∷ []) }
+    ensures none { IfNone result
+        ((first second third : List ℕ) → map string_bytes words.now ≢ first ∷ second ∷ third ∷ []) }
+{
+    match words {
+        [first, second, third] => Some((first.as_str(), second.as_str(), third.as_str())),
         _ => None,
     }
 }

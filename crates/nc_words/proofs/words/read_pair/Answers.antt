@@ -13,3 +13,12 @@ returns-in-Err-clause-fault c =
       | in-rm w ↦ bad_name _ _ text (act.Remove text) _ refl (ap (λ (word : List ℕ). word ∷ text ∷ []) w.in-rm.is) (search rules)
       | in-stat w ↦ bad_name _ _ text (act.Stat text) _ refl (ap (λ (word : List ℕ). word ∷ text ∷ []) w.in-stat.is) (search rules)
     ]
+
+pub returns-in-Ok-clause-command : goal.returns-in-Ok-clause-command
+returns-in-Ok-clause-command c =
+    elim c.match-word.branch [
+      | in-put w ↦ (search rules)
+      | in-get w ↦ (search rules)
+      | in-rm w ↦ (search rules)
+      | in-stat w ↦ (search rules)
+    ]
