@@ -7,6 +7,7 @@ pub mod Steps
 pub mod Seen
 pub mod Outside
 pub mod MetaJobs
+pub mod OnlyMetas
 pub mod SettleWrites
 pub mod SettleStates
 pub mod SettleFaults

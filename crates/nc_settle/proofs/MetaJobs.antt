@@ -2,19 +2,19 @@
 use Rattle.std.proofs.Common.{◌≡◌, ◌+◌, ◌++◌, ℕ, Bool, true, false, if◌then◌else◌, None, Some, List, All, option_to_list, replicate, ◌≤◌, refl, sym, ap, ◌∙◌, subst, arith}
 use Rattle.std.proofs.lemmas.List.{get_or-replicate}
 use Rattle.nc_name.specs.declared.key.Key.{Key}
-use Rattle.nc_name.specs.Keys.{key_text, name_of}
+use Rattle.nc_name.specs.Keys.{key_text}
 use Rattle.nc_frame.specs.Frames.{Sealed, Whole}
 use Rattle.nc_meta.specs.declared.meta.Meta.{Meta}
 use Rattle.nc_meta.specs.Metas.{Spells}
 use Rattle.nc_cloud.specs.declared.fleet.Job.{Job}
 use Rattle.nc_cloud.specs.Contents.{Write}
 use Rattle.nc_cloud.specs.Fleet.{writes}
+use Rattle.nc_cloud.specs.Images.{write_at}
 use Rattle.nc_cloud.specs.Rounds.{row, some_row}
-use Rattle.nc_cloud.proofs.SomeRows.{some_all, some_more, some_same}
+use Rattle.nc_cloud.proofs.SomeRows.{some_all, some_each, some_more, some_same}
 use Rattle.nc_state.specs.Clouds.{Clouds}
 use Rattle.nc_state.specs.Holding.{meta_key, meta_object}
 use Rattle.nc_state.proofs.Held.{sealed_is_object}
-use Rattle.nc_state.proofs.Alone.{AreOfName, some_of_name}
 use Rattle.nc_settle.specs.MetaWrites.{AreMetaJobs, meta_write, meta_write_on, named}
 
 module _ (n : ℕ) (name : List ℕ) (m : Meta) where
@@ -45,11 +45,9 @@ module _ (n : ℕ) (name : List ℕ) (m : Meta) (P : Clouds) where
   pub on_cloud : (c : ℕ) (p : Write) → meta_write_on n name m P c ≡ Some p → p.cloud ≡ c
   on_cloud c p e = sym (ap (λ (q : Write). q.cloud) (on_is c p e).0)
 
-  -- all entries are of the name
-  pub metas_of_name : AreOfName name (some_row (meta_write_on n name m P) 0 n)
-  metas_of_name =
-      some_of_name name (meta_write_on n name m P) on_cloud (λ c p e. sym (ap (λ (q : Write). name_of q.key) (on_is c p e).0)) n
-      (some_row (meta_write_on n name m P) 0 n) refl
+  -- all entries are under the key of the meta
+  pub at_meta_key : (c : ℕ) (p : Write) → write_at (some_row (meta_write_on n name m P) 0 n) c ≡ Some p → p.key ≡ meta_key name m
+  at_meta_key = some_each (meta_write_on n name m P) on_cloud (λ p. p.key ≡ meta_key name m) n (λ c p l e. sym (ap (λ (q : Write). q.key) (on_is c p e).0))
 
 -- on all clouds
 pub metas_on_all : (n : ℕ) (name : List ℕ) (m : Meta) → n ≤ 10 → some_row (meta_write_on n name m (named (replicate 10 true))) 0 n ≡ row (meta_write n name m) 0 n

@@ -14,15 +14,13 @@ use Rattle.nc_state.specs.Weighing.{settled}
 use Rattle.nc_state.specs.Standing.{Entries, Stands}
 use Rattle.nc_state.specs.Commands.{RestsAt}
 use Rattle.nc_state.specs.Rounds.{IsImage, WritesMissing}
-use Rattle.nc_state.specs.Vaults.{ChangesOnlyName, ComesTo, ForEachVault, NothingMade, Vault}
-use Rattle.nc_state.proofs.Alone.{AreOfName, alone_look, alone_round, alone_then}
+use Rattle.nc_state.specs.Vaults.{ComesTo, ForEachVault, NothingMade, Vault}
 use Rattle.nc_state.proofs.CommandLaws.{nothing_made_yet, nothing_to_settle, settling}
 use Rattle.nc_state.proofs.TopLaws.{top_is_shown}
 use Rattle.nc_settle.specs.Views.{Places}
 use Rattle.nc_settle.specs.Looking.{HasWidth, Sees}
 use Rattle.nc_settle.specs.Decisions.{SeesTop}
-use Rattle.nc_settle.specs.Settling.{SeesOne, lacking_writes, lacks}
-use Rattle.nc_settle.proofs.MetaJobs.{metas_of_name}
+use Rattle.nc_settle.specs.Settling.{SeesOne, lacking_writes}
 use Rattle.nc_settle.proofs.SettleWrites.{all_settled, seen_top, settles}
 
 module _ {A : Type 0} (F : FleetGhosts A) (n : ℕ) (name : List ℕ) (valid : IsName name) {s t : A} (same : F.held t ≡ F.held s) (stops : Stops F s t (λ G. G ≡ F.held s)) where
@@ -76,9 +74,6 @@ module _ {A : Type 0} (F : FleetGhosts A) (n : ℕ) (name : List ℕ) (valid : I
           };
     }
 
-    pub round_alone : AreOfName name ps → Keeps F s u (ChangesOnlyName name (F.held s))
-    round_alone of_name = alone_then F name (alone_look F name same stops) (alone_round F name ps of_name round)
-
 -- the same for what was seen and written
 module _ {A : Type 0} (F : FleetGhosts A) (n : ℕ) (name : List ℕ) (wide : 4 ≤ n) (narrow : n ≤ 10) (valid : IsName name) {s t u : A} (same : F.held t ≡ F.held s) (stops : Stops F s t (λ G. G ≡ F.held s))
     (v : Places) (sees : Sees n name (F.held s) v) (width : HasWidth n v) (one : SeesOne v) (a : ℕ) (m : Meta) (top : SeesTop v a m)
@@ -94,9 +89,6 @@ module _ {A : Type 0} (F : FleetGhosts A) (n : ℕ) (name : List ℕ) (wide : 4 
 
   pub spread_begins : ForEachVault n (F.held s) (λ V. Keeps F s u (NothingMade n name V))
   spread_begins = round_begins F n name valid same stops m is_top (lacking_writes n name v m) all_settle round_keeps
-
-  pub spread_alone : Keeps F s u (ChangesOnlyName name (F.held s))
-  spread_alone = round_alone F n name valid same stops m is_top (lacking_writes n name v m) all_settle round_keeps (metas_of_name n name m (lacks v m))
 
   pub spread_settled : Written (lacking_writes k name v m) (F.held t) (F.held u) → HeldByAll n (F.held u) name m
   spread_settled written =

@@ -1,5 +1,7 @@
 -- Settling a name: what is refused, and what is written.
 use Rattle.std.specs.Prelude.{ℕ, ◌≡◌, ◌<◌, ◌%◌, Bool, false, not, List, length, nat_eq}
+use Rattle.nc_name.specs.declared.key.Key.{Key}
+use Rattle.nc_name.specs.declared.key.Key.TheVariants as key
 use Rattle.nc_meta.specs.declared.meta.Meta.{Meta}
 use Rattle.nc_meta.specs.Metas.{generation_of}
 use Rattle.nc_cloud.specs.Contents.{Contents, Write}
@@ -62,6 +64,10 @@ SettleBegins F name old new = ForEachVault (F.clouds old) (F.held old) (λ V. Ke
 -- and then the name is at rest at the version of this meta
 abbrev pub SettleComes : {A : Type 0} → FleetGhosts A → List ℕ → A → A → Settled → Type 0
 SettleComes F name old new s = ForEachVault (F.clouds old) (F.held old) (λ V. ComesTo (F.clouds old) name V (F.held new) s.top)
+
+-- only metadata of the name changed: no chunk did, and no other name
+pub record ChangesOnlyMetas (name : List ℕ) (F G : Contents) : Type 0 where
+  pub others : (c : ℕ) (place : Key) → ((slot : ℕ) → place ≡ key.Meta name slot → ⊥) → G c place ≡ F c place
 
 -- ---- which clouds are written to
 

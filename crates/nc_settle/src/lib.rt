@@ -17,5 +17,5 @@ pub use looking::{look, look_without};
 pub use metas::{meta_jobs, push_job};
 pub use place::Place;
 pub use settled::{SettleFault, Settled};
-pub use settling::settle;
+pub use settling::{agreed, settle};
 pub use view::View;

@@ -7,7 +7,7 @@ ghost use Rattle.nc_cloud.specs.Stopping.{GoesOn, Keeps};
 ghost use Rattle.nc_state.specs.Holding.{IsSettledOn, IsTopOrNone, Undisputed};
 ghost use Rattle.nc_state.specs.Vaults.{ChangesOnlyName};
 ghost use Rattle.nc_settle.specs.Elsewhere.{NothingMisplaced};
-ghost use Rattle.nc_settle.specs.Settling.{lacking_writes, lacks, AreLacking, HasSettleCause, IsSeenFault, SeesFault, SeesOne, SettleBegins, SettleComes, SettleRefuses};
+ghost use Rattle.nc_settle.specs.Settling.{lacking_writes, lacks, AreLacking, ChangesOnlyMetas, HasSettleCause, IsSeenFault, SeesFault, SeesOne, SettleBegins, SettleComes, SettleRefuses};
 ghost use Rattle.nc_settle.specs.Stops.{RoundStopped, SettleStopped};
 ghost use Rattle.nc_settle.specs.Views.{width_of};
 
@@ -38,6 +38,7 @@ pub fn settle<F: Fleet>(alloc: Global, fleet: &mut F, name: &Name) -> Result<Set
     ensures fits { IfOk result (λ s. IfSome s.top (IsMeta (F.clouds fleet.old))) }
     ensures begins { F.tells → SettleBegins F.Fleet name.now fleet.old fleet.new }
     ensures comes { F.tells → IfOk result (SettleComes F.Fleet name.now fleet.old fleet.new) }
+    ensures chunks { F.tells → Keeps F.Fleet fleet.old fleet.new (ChangesOnlyMetas name.now (F.held fleet.old)) }
     ensures alone { F.tells → Keeps F.Fleet fleet.old fleet.new (ChangesOnlyName name.now (F.held fleet.old)) }
     ensures stopped { IfErr result (SettleStopped F.Fleet fleet.old fleet.new) }
     ensures cause { IfErr result (HasSettleCause F.counts_exactly (F.faults fleet.old) (F.faults fleet.new)) }
@@ -66,7 +67,7 @@ pub fn settle<F: Fleet>(alloc: Global, fleet: &mut F, name: &Name) -> Result<Set
 }
 
 /// Whether all clouds answered and don't contradict each other.
-fn agreed(view: &View) -> Result<(), SettleFault>
+pub fn agreed(view: &View) -> Result<(), SettleFault>
     ensures fault { IfErr result (SeesFault view.now) }
     ensures one { OnOk result (SeesOne view.now) }
 {

@@ -6,10 +6,10 @@ use Rattle.nc_cloud.specs.declared.deciding.RoundFault.TheVariants.{Cloud, Memor
 use Rattle.nc_cloud.proofs.Counts.{later_round}
 use Rattle.nc_cloud.proofs.Time.{goes_then}
 use Rattle.nc_state.specs.Holding.{HeldByNone}
-use Rattle.nc_state.proofs.Alone.{alone_look}
+use Rattle.nc_settle.proofs.OnlyMetas.{alone_by, looked_chunks, spread_chunks}
 use Rattle.nc_settle.proofs.Seen.{meta_fits, none_held, nothing_misplaced, undisputed}
 use Rattle.nc_settle.proofs.SettleFaults.{refused_held, seen_cause, seen_clean}
-use Rattle.nc_settle.proofs.SettleStates.{looked_begins, none_comes, spread_alone, spread_begins, spread_comes, spread_settled}
+use Rattle.nc_settle.proofs.SettleStates.{looked_begins, none_comes, spread_begins, spread_comes, spread_settled}
 use Rattle.nc_settle.proofs.SettleWrites.{seen_top}
 use Rattle.nc_settle.specs.Stops.{RoundStopped}
 use Rattle.nc_settle.specs.Stops.SettleStopped.{looking, writing}
@@ -20,8 +20,11 @@ use Rattle.nc_settle.proofs.settling.settle.Goals as goal
 pub returns-in_err-view-clause-begins : goal.returns-in_err-view-clause-begins
 returns-in_err-view-clause-begins g c told = looked_begins g.F.Fleet _ _ c.look.ensures.valid c.look.ensures.looked.held c.look.ensures.stops
 
+pub returns-in_err-view-clause-chunks : goal.returns-in_err-view-clause-chunks
+returns-in_err-view-clause-chunks g c told = looked_chunks g.F.Fleet _ c.look.ensures.looked.held c.look.ensures.stops
+
 pub returns-in_err-view-clause-alone : goal.returns-in_err-view-clause-alone
-returns-in_err-view-clause-alone g c told = alone_look g.F.Fleet _ c.look.ensures.looked.held c.look.ensures.stops
+returns-in_err-view-clause-alone g c told = alone_by g.F.Fleet _ (returns-in_err-view-clause-chunks g c told)
 
 pub returns-in_err-view-clause-time : goal.returns-in_err-view-clause-time
 returns-in_err-view-clause-time g c = c.look.ensures.stops.time
@@ -29,8 +32,11 @@ returns-in_err-view-clause-time g c = c.look.ensures.stops.time
 pub returns-in-Err-clause-begins : goal.returns-in-Err-clause-begins
 returns-in-Err-clause-begins g c told = looked_begins g.F.Fleet _ _ c.look.ensures.valid c.look.ensures.looked.held c.look.ensures.stops
 
+pub returns-in-Err-clause-chunks : goal.returns-in-Err-clause-chunks
+returns-in-Err-clause-chunks g c told = looked_chunks g.F.Fleet _ c.look.ensures.looked.held c.look.ensures.stops
+
 pub returns-in-Err-clause-alone : goal.returns-in-Err-clause-alone
-returns-in-Err-clause-alone g c told = alone_look g.F.Fleet _ c.look.ensures.looked.held c.look.ensures.stops
+returns-in-Err-clause-alone g c told = alone_by g.F.Fleet _ (returns-in-Err-clause-chunks g c told)
 
 pub returns-in-Err-clause-time : goal.returns-in-Err-clause-time
 returns-in-Err-clause-time g c = c.look.ensures.stops.time
@@ -38,8 +44,11 @@ returns-in-Err-clause-time g c = c.look.ensures.stops.time
 pub returns-in-None-clause-begins : goal.returns-in-None-clause-begins
 returns-in-None-clause-begins g c told = looked_begins g.F.Fleet _ _ c.look.ensures.valid c.look.ensures.looked.held c.look.ensures.stops
 
+pub returns-in-None-clause-chunks : goal.returns-in-None-clause-chunks
+returns-in-None-clause-chunks g c told = looked_chunks g.F.Fleet _ c.look.ensures.looked.held c.look.ensures.stops
+
 pub returns-in-None-clause-alone : goal.returns-in-None-clause-alone
-returns-in-None-clause-alone g c told = alone_look g.F.Fleet _ c.look.ensures.looked.held c.look.ensures.stops
+returns-in-None-clause-alone g c told = alone_by g.F.Fleet _ (returns-in-None-clause-chunks g c told)
 
 pub returns-in-None-clause-time : goal.returns-in-None-clause-time
 returns-in-None-clause-time g c = c.look.ensures.stops.time
@@ -72,8 +81,11 @@ returns-in-None-clause-clean g c exact = seen_clean _ _ c.in_ok-view.ensures.wid
 pub returns-in-Ok-spread-clause-begins : goal.returns-in-Ok-spread-clause-begins
 returns-in-Ok-spread-clause-begins g c told = spread_begins g.F.Fleet _ _ c.requires.wide c.requires.narrow c.look.ensures.valid c.look.ensures.looked.held c.look.ensures.stops _ (c.in_ok-view.ensures.told told) c.in_ok-view.ensures.width c.in-Ok.ensures.one c.in-Some.top.cloud c.in-Some.top.meta.now c.in-Some.ensures.some _ c.look.ensures.looked.clouds (c.spread.ensures.keeps told)
 
+pub returns-in-Ok-spread-clause-chunks : goal.returns-in-Ok-spread-clause-chunks
+returns-in-Ok-spread-clause-chunks g c told = spread_chunks g.F.Fleet _ c.look.ensures.looked.held c.look.ensures.stops (g.F.Fleet.clouds c.look.new.fleet) c.in_ok-view.view c.in-Some.top.meta.now (c.spread.ensures.keeps told)
+
 pub returns-in-Ok-spread-clause-alone : goal.returns-in-Ok-spread-clause-alone
-returns-in-Ok-spread-clause-alone g c told = spread_alone g.F.Fleet _ _ c.requires.wide c.requires.narrow c.look.ensures.valid c.look.ensures.looked.held c.look.ensures.stops _ (c.in_ok-view.ensures.told told) c.in_ok-view.ensures.width c.in-Ok.ensures.one c.in-Some.top.cloud c.in-Some.top.meta.now c.in-Some.ensures.some _ c.look.ensures.looked.clouds (c.spread.ensures.keeps told)
+returns-in-Ok-spread-clause-alone g c told = alone_by g.F.Fleet _ (returns-in-Ok-spread-clause-chunks g c told)
 
 pub returns-in-Ok-spread-clause-clouds : goal.returns-in-Ok-spread-clause-clouds
 returns-in-Ok-spread-clause-clouds g c = c.spread.ensures.clouds ∙ c.look.ensures.looked.clouds
@@ -92,8 +104,11 @@ returns-in-Ok-spread-clause-time g c = goes_then c.look.ensures.stops.time c.spr
 pub returns-in-Err-Cloud-clause-begins : goal.returns-in-Err-Cloud-clause-begins
 returns-in-Err-Cloud-clause-begins g c told = spread_begins g.F.Fleet _ _ c.requires.wide c.requires.narrow c.look.ensures.valid c.look.ensures.looked.held c.look.ensures.stops _ (c.in_ok-view.ensures.told told) c.in_ok-view.ensures.width c.in-Ok.ensures.one c.in-Some.top.cloud c.in-Some.top.meta.now c.in-Some.ensures.some _ c.look.ensures.looked.clouds (c.spread.ensures.keeps told)
 
+pub returns-in-Err-Cloud-clause-chunks : goal.returns-in-Err-Cloud-clause-chunks
+returns-in-Err-Cloud-clause-chunks g c told = spread_chunks g.F.Fleet _ c.look.ensures.looked.held c.look.ensures.stops (g.F.Fleet.clouds c.look.new.fleet) c.in_ok-view.view c.in-Some.top.meta.now (c.spread.ensures.keeps told)
+
 pub returns-in-Err-Cloud-clause-alone : goal.returns-in-Err-Cloud-clause-alone
-returns-in-Err-Cloud-clause-alone g c told = spread_alone g.F.Fleet _ _ c.requires.wide c.requires.narrow c.look.ensures.valid c.look.ensures.looked.held c.look.ensures.stops _ (c.in_ok-view.ensures.told told) c.in_ok-view.ensures.width c.in-Ok.ensures.one c.in-Some.top.cloud c.in-Some.top.meta.now c.in-Some.ensures.some _ c.look.ensures.looked.clouds (c.spread.ensures.keeps told)
+returns-in-Err-Cloud-clause-alone g c told = alone_by g.F.Fleet _ (returns-in-Err-Cloud-clause-chunks g c told)
 
 pub returns-in-Err-Cloud-clause-clouds : goal.returns-in-Err-Cloud-clause-clouds
 returns-in-Err-Cloud-clause-clouds g c = c.spread.ensures.clouds ∙ c.look.ensures.looked.clouds
@@ -112,8 +127,11 @@ returns-in-Err-Cloud-clause-time g c = goes_then c.look.ensures.stops.time c.spr
 pub returns-clause-begins : goal.returns-clause-begins
 returns-clause-begins g c told = spread_begins g.F.Fleet _ _ c.requires.wide c.requires.narrow c.look.ensures.valid c.look.ensures.looked.held c.look.ensures.stops _ (c.in_ok-view.ensures.told told) c.in_ok-view.ensures.width c.in-Ok.ensures.one c.in-Some.top.cloud c.in-Some.top.meta.now c.in-Some.ensures.some _ c.look.ensures.looked.clouds (c.spread.ensures.keeps told)
 
+pub returns-clause-chunks : goal.returns-clause-chunks
+returns-clause-chunks g c told = spread_chunks g.F.Fleet _ c.look.ensures.looked.held c.look.ensures.stops (g.F.Fleet.clouds c.look.new.fleet) c.in_ok-view.view c.in-Some.top.meta.now (c.spread.ensures.keeps told)
+
 pub returns-clause-alone : goal.returns-clause-alone
-returns-clause-alone g c told = spread_alone g.F.Fleet _ _ c.requires.wide c.requires.narrow c.look.ensures.valid c.look.ensures.looked.held c.look.ensures.stops _ (c.in_ok-view.ensures.told told) c.in_ok-view.ensures.width c.in-Ok.ensures.one c.in-Some.top.cloud c.in-Some.top.meta.now c.in-Some.ensures.some _ c.look.ensures.looked.clouds (c.spread.ensures.keeps told)
+returns-clause-alone g c told = alone_by g.F.Fleet _ (returns-clause-chunks g c told)
 
 pub returns-clause-clouds : goal.returns-clause-clouds
 returns-clause-clouds g c = c.spread.ensures.clouds ∙ c.look.ensures.looked.clouds
