@@ -98,9 +98,3 @@ Serves did (Some x) old new = did x old new
 pub record AllServed {C : Type 0} (served : ℕ → Seat C → Seat C → Type 0) (old new : List (Seat C)) : Type 0 where
   pub same_length : length new ≡ length old
   pub each : (c : ℕ) (d : Seat C) → c < length old → served c (slice_index_or old c d) (slice_index_or new c d)
-
--- the seats before the n-th have served, the others are as they were
-pub record ServedSoFar {C : Type 0} (n : ℕ) (served : ℕ → Seat C → Seat C → Type 0) (old new : List (Seat C)) : Type 0 where
-  pub same_length : length new ≡ length old
-  pub before : (c : ℕ) (d : Seat C) → c < n → c < length old → served c (slice_index_or old c d) (slice_index_or new c d)
-  pub after : (c : ℕ) (d : Seat C) → n ≤ c → slice_index_or new c d ≡ slice_index_or old c d

@@ -3,7 +3,8 @@ ghost use Rattle.std.specs.Thread.{IsSync};
 ghost use Rattle.nc_cloud.specs.Fan.{clouds_of};
 ghost use Rattle.nc_cloud.specs.Seats.{clouds_in, contents_at, count_at};
 
-use crate::cloud::{Cloud, CloudError, KeyList};
+use crate::at_once::AtOnce;
+use crate::cloud::{CloudError, KeyList};
 use crate::fleet::{Answer, Ask, Done, Erase, Fleet, Job};
 use crate::seats::{Seat, fan_deletes, fan_gets, fan_puts, list_at};
 use nc_name::Memory;
@@ -18,7 +19,7 @@ pub struct Fanned<C, R> {
     seats: Vec<Seat<C>>,
 }
 
-impl<C: Cloud + Send + Drop, R: Threads + Sync + Drop> Fanned<C, R> {
+impl<C: AtOnce, R: Threads + Sync + Drop> Fanned<C, R> {
     /// A fleet of these clouds, in their order. At `Memory` they are dropped.
     pub fn new(rt: R, alloc: Global, clouds: Vec<C>) -> Result<Fanned<C, R>, Memory>
         ensures { IfOk result (λ fleet. clouds_of fleet ≡ clouds.items) }
@@ -43,7 +44,7 @@ impl<C: Cloud + Send + Drop, R: Threads + Sync + Drop> Fanned<C, R> {
     }
 }
 
-impl<C: Cloud + Send + Drop, R: Threads + Sync + Drop> Fleet for Fanned<C, R> {
+impl<C: AtOnce, R: Threads + Sync + Drop> Fleet for Fanned<C, R> {
     ghost ready = { IsSync R.row };
 
     ghost clouds = { λ fleet. length (clouds_of fleet) };
@@ -69,15 +70,15 @@ impl<C: Cloud + Send + Drop, R: Threads + Sync + Drop> Fleet for Fanned<C, R> {
     }
 
     fn get_round(&mut self, asks: &mut [Ask]) {
-        fan_gets(&mut self.seats, asks);
+        fan_gets(&self.rt, &mut self.seats, asks);
     }
 
     fn put_round(&mut self, jobs: &mut [Job]) {
-        fan_puts(&mut self.seats, jobs);
+        fan_puts(&self.rt, &mut self.seats, jobs);
     }
 
     fn delete_round(&mut self, erases: &mut [Erase]) {
-        fan_deletes(&mut self.seats, erases);
+        fan_deletes(&self.rt, &mut self.seats, erases);
     }
 
     fn list(&mut self, cloud: u8) -> Result<KeyList, CloudError> {

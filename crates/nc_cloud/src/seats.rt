@@ -1,4 +1,5 @@
 ghost use Rattle.std.specs.Prelude.{◌≡◌, ◌<◌, ℕ, map, length, find, nat_eq, option_copied, slice_index_or, IfOk, IsErrOf, AllPairs, All, ◌≢◌};
+ghost use Rattle.std.specs.Thread.{IsSync};
 ghost use Rattle.nc_frame.specs.Frames.{Whole};
 ghost use Rattle.nc_cloud.specs.Contents.{Grows, Leaves, Rose};
 ghost use Rattle.nc_cloud.specs.Cloud.{AreSorted, Lists};
@@ -6,11 +7,16 @@ ghost use Rattle.nc_cloud.specs.declared.cloud.CloudError.TheVariants.{Failed};
 ghost use Rattle.nc_cloud.specs.Fleet.{asked, Answers, chunks_got, got_count, writes, touches, erasures, erase_touches};
 ghost use Rattle.nc_cloud.specs.Seats.{contents_at, count_at, answer_from, AllServed, ask_at, clouds_in, done_from, erase_at, job_at, collected_ask, collected_erase, collected_job, DidErase, DidGet, DidPut, Serves};
 
+use crate::at_once::AtOnce;
 use crate::cloud::{Cloud, CloudError, Got, KeyList};
 use crate::fleet::{Answer, Ask, Done, Erase, Job};
 use nc_name::Memory;
 use std::alloc::Global;
-use std::mem;
+use std::thread::Threads;
+use std::{mem, thread};
+
+/// More than there are clouds in a fleet.
+const MOST_THREADS: usize = 16;
 
 /// A cloud beside a place for its answer.
 #[derive(Drop)]
@@ -100,32 +106,53 @@ fn serve_erase<C: Cloud>(cloud: usize, seat: &mut Seat<C>, erases: &[Erase])
     }
 }
 
-/// Each cloud serves its ask.
-fn serve_gets<C: Cloud>(seats: &mut [Seat<C>], asks: &[Ask])
+/// Each cloud serves its ask, all at the same time, in a thread each where threads can be begun.
+pub fn get_at_once<C: Cloud + Send + Drop, R: Threads + Sync>(
+    rt: &R,
+    seats: &mut [Seat<C>],
+    asks: &[Ask],
+)
     ensures { AllServed (λ c. Serves (DidGet C.Cloud) (ask_at asks.now c)) seats.old seats.new }
 {
-    for cloud in 0..seats.len() {
-        serve_get(cloud, &mut seats[cloud], asks);
-    }
+    thread::for_each_mut(
+        rt,
+        seats,
+        MOST_THREADS,
+        &|cloud, seat| serve_get(cloud, seat, asks),
+    );
 }
 
-/// Each cloud does its job.
-fn serve_puts<C: Cloud>(seats: &mut [Seat<C>], jobs: &[Job])
+/// Each cloud does its job, all at the same time, in a thread each where threads can be begun.
+pub fn put_at_once<C: Cloud + Send + Drop, R: Threads + Sync>(
+    rt: &R,
+    seats: &mut [Seat<C>],
+    jobs: &[Job],
+)
     requires { All (λ j. Whole j.bytes) jobs.now }
     ensures { AllServed (λ c. Serves (DidPut C.Cloud) (job_at jobs.now c)) seats.old seats.new }
 {
-    for cloud in 0..seats.len() {
-        serve_put(cloud, &mut seats[cloud], jobs);
-    }
+    thread::for_each_mut(
+        rt,
+        seats,
+        MOST_THREADS,
+        &|cloud, seat| serve_put(cloud, seat, jobs),
+    );
 }
 
-/// Each cloud does its delete.
-fn serve_erases<C: Cloud>(seats: &mut [Seat<C>], erases: &[Erase])
+/// Each cloud does its delete, all at the same time, in a thread each where threads can be begun.
+pub fn delete_at_once<C: Cloud + Send + Drop, R: Threads + Sync>(
+    rt: &R,
+    seats: &mut [Seat<C>],
+    erases: &[Erase],
+)
     ensures { AllServed (λ c. Serves (DidErase C.Cloud) (erase_at erases.now c)) seats.old seats.new }
 {
-    for cloud in 0..seats.len() {
-        serve_erase(cloud, &mut seats[cloud], erases);
-    }
+    thread::for_each_mut(
+        rt,
+        seats,
+        MOST_THREADS,
+        &|cloud, seat| serve_erase(cloud, seat, erases),
+    );
 }
 
 /// Takes the answer out of a seat.
@@ -179,7 +206,12 @@ fn collect_erases<C>(seats: &[Seat<C>], erases: &mut [Erase])
 }
 
 /// A round of gets: each cloud serves its ask, and then the answers are moved to the asks.
-pub(crate) fn fan_gets<C: Cloud>(seats: &mut [Seat<C>], asks: &mut [Ask])
+pub(crate) fn fan_gets<C: AtOnce, R: Threads + Sync>(
+    rt: &R,
+    seats: &mut [Seat<C>],
+    asks: &mut [Ask],
+)
+    requires shared { IsSync R.row }
     requires below { All (λ a. a.cloud < length seats.old) asks.old }
     requires once { AllPairs (λ a b. a.cloud ≢ b.cloud) asks.old }
     ensures entries { map asked asks.new ≡ map asked asks.old }
@@ -192,12 +224,17 @@ pub(crate) fn fan_gets<C: Cloud>(seats: &mut [Seat<C>], asks: &mut [Ask])
     ensures slips { count_at C.slips (clouds_in seats.new) ≡ count_at C.slips (clouds_in seats.old) }
     ensures gets { (c : ℕ) → count_at C.chunk_gets (clouds_in seats.new) c ≡ got_count (count_at C.chunk_gets (clouds_in seats.old) c) (chunks_got c asks.new) }
 {
-    serve_gets(seats, asks);
+    C::get_all(rt, seats, asks);
     collect_gets(seats, asks);
 }
 
 /// A round of puts: each cloud does its job, and then the answers are copied to the jobs.
-pub(crate) fn fan_puts<C: Cloud>(seats: &mut [Seat<C>], jobs: &mut [Job])
+pub(crate) fn fan_puts<C: AtOnce, R: Threads + Sync>(
+    rt: &R,
+    seats: &mut [Seat<C>],
+    jobs: &mut [Job],
+)
+    requires shared { IsSync R.row }
     requires below { All (λ j. j.cloud < length seats.old) jobs.old }
     requires once { AllPairs (λ a b. a.cloud ≢ b.cloud) jobs.old }
     requires whole { All (λ j. Whole j.bytes) jobs.old }
@@ -210,12 +247,17 @@ pub(crate) fn fan_puts<C: Cloud>(seats: &mut [Seat<C>], jobs: &mut [Job])
     ensures slips { count_at C.slips (clouds_in seats.new) ≡ count_at C.slips (clouds_in seats.old) }
     ensures gets { count_at C.chunk_gets (clouds_in seats.new) ≡ count_at C.chunk_gets (clouds_in seats.old) }
 {
-    serve_puts(seats, jobs);
+    C::put_all(rt, seats, jobs);
     collect_puts(seats, jobs);
 }
 
 /// A round of deletes: each cloud does its delete, and then the answers are copied to the entries.
-pub(crate) fn fan_deletes<C: Cloud>(seats: &mut [Seat<C>], erases: &mut [Erase])
+pub(crate) fn fan_deletes<C: AtOnce, R: Threads + Sync>(
+    rt: &R,
+    seats: &mut [Seat<C>],
+    erases: &mut [Erase],
+)
+    requires shared { IsSync R.row }
     requires below { All (λ e. e.cloud < length seats.old) erases.old }
     requires once { AllPairs (λ a b. a.cloud ≢ b.cloud) erases.old }
     ensures entries { erasures erases.new ≡ erasures erases.old }
@@ -228,7 +270,7 @@ pub(crate) fn fan_deletes<C: Cloud>(seats: &mut [Seat<C>], erases: &mut [Erase])
     ensures faults { count_at C.faults (clouds_in seats.new) ≡ count_at C.faults (clouds_in seats.old) }
     ensures gets { count_at C.chunk_gets (clouds_in seats.new) ≡ count_at C.chunk_gets (clouds_in seats.old) }
 {
-    serve_erases(seats, erases);
+    C::delete_all(rt, seats, erases);
     collect_erases(seats, erases);
 }
 

@@ -23,7 +23,7 @@ fn two(alloc: Global) -> Result<Vec<MemCloud>, Memory>
     Ok(clouds)
 }
 
-fn job(alloc: Global, cloud: u8, key: &Key) -> Result<Job, Memory>
+pub(crate) fn job(alloc: Global, cloud: u8, key: &Key) -> Result<Job, Memory>
     requires { Slots key.now }
     ensures cloud { IfOk result (λ job. job.cloud ≡ cloud) }
     ensures whole { IfOk result (λ job. Whole job.bytes) }

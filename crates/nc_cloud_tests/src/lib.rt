@@ -3,6 +3,8 @@
 #![tactic(auto)]
 
 #[cfg(test)]
+mod at_once_tests;
+#[cfg(test)]
 mod fanned_tests;
 #[cfg(test)]
 mod folder_cloud_tests;

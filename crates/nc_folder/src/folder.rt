@@ -6,8 +6,12 @@ ghost use Rattle.nc_cloud.specs.declared.cloud.CloudError.TheVariants.{Failed};
 
 use crate::files;
 use crate::files::Trouble;
-use nc_cloud::{Cloud, CloudError, Got, KeyList};
+use nc_cloud::{
+    Ask, AtOnce, Cloud, CloudError, Erase, Got, Job, KeyList, Seat, delete_at_once, get_at_once,
+    put_at_once,
+};
 use nc_name::{Key, Memory};
+use std::thread::Threads;
 
 /// A folder as a cloud. It tells no contents: what stands in the folder is the system's word.
 /// Each error of the system raises one of its counts.
@@ -117,5 +121,19 @@ impl Cloud for FolderCloud {
                 Err(error)
             }
         }
+    }
+}
+
+impl AtOnce for FolderCloud {
+    fn get_all<R: Threads + Sync>(rt: &R, seats: &mut [Seat<Self>], asks: &[Ask]) {
+        get_at_once(rt, seats, asks);
+    }
+
+    fn put_all<R: Threads + Sync>(rt: &R, seats: &mut [Seat<Self>], jobs: &[Job]) {
+        put_at_once(rt, seats, jobs);
+    }
+
+    fn delete_all<R: Threads + Sync>(rt: &R, seats: &mut [Seat<Self>], erases: &[Erase]) {
+        delete_at_once(rt, seats, erases);
     }
 }

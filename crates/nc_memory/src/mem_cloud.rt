@@ -9,9 +9,13 @@ ghost use Rattle.nc_cloud.specs.declared.cloud.CloudError.TheVariants.{Failed, M
 
 use crate::record::{Refusal, Torn, refusal_of};
 use crate::store::{Object, bytes_of, empty, keys_of, place, remove};
-use nc_cloud::{Cloud, CloudError, Got, KeyList};
+use nc_cloud::{
+    Ask, AtOnce, Cloud, CloudError, Erase, Got, Job, KeyList, Seat, delete_at_once, get_at_once,
+    put_at_once,
+};
 use nc_name::{Blob, Key, Memory};
 use std::alloc::Global;
+use std::thread::Threads;
 
 /// A cloud in memory, which fails where it was told to. Its deletes take no memory.
 #[derive(Drop)]
@@ -236,5 +240,19 @@ impl Cloud for MemCloud {
             return Err(CloudError::Failed);
         }
         Ok(keys_of(self.alloc, self.objects.as_slice())?)
+    }
+}
+
+impl AtOnce for MemCloud {
+    fn get_all<R: Threads + Sync>(rt: &R, seats: &mut [Seat<Self>], asks: &[Ask]) {
+        get_at_once(rt, seats, asks);
+    }
+
+    fn put_all<R: Threads + Sync>(rt: &R, seats: &mut [Seat<Self>], jobs: &[Job]) {
+        put_at_once(rt, seats, jobs);
+    }
+
+    fn delete_all<R: Threads + Sync>(rt: &R, seats: &mut [Seat<Self>], erases: &[Erase]) {
+        delete_at_once(rt, seats, erases);
     }
 }

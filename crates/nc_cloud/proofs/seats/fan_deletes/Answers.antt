@@ -5,11 +5,11 @@ use Rattle.nc_cloud.proofs.seats.fan_deletes.Given.{Over}
 use Rattle.nc_cloud.proofs.seats.fan_deletes.Goals as goal
 
 round : (g : Over) (c : goal.After-erases-1 g)
-    → WriteRound g.C.Cloud g.C.Cloud.sure_deletes g.C.Cloud.slips g.C.Cloud.faults erases c.args.erases.now c.collect_erases.new.erases c.args.seats.now c.serve_erases.new.seats
+    → WriteRound g.C.Cloud g.C.Cloud.sure_deletes g.C.Cloud.slips g.C.Cloud.faults erases c.args.erases.now c.collect_erases.new.erases c.args.seats.now c.delete_all.new.seats
 round g c = record {
   below = c.requires.below;
   once = c.requires.once;
-  served = c.serve_erases.ensures;
+  served = c.delete_all.ensures;
   answers = c.collect_erases.ensures;
   clouds = refl;
   ended = λ e s t done. done.ended;

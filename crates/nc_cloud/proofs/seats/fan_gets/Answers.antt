@@ -3,11 +3,11 @@ use Rattle.nc_cloud.proofs.FanRounds.{fan_answered, fan_exact, fan_failed, fan_g
 use Rattle.nc_cloud.proofs.seats.fan_gets.Given.{Over}
 use Rattle.nc_cloud.proofs.seats.fan_gets.Goals as goal
 
-round : (g : Over) (c : goal.After-asks-1 g) → GetRound g.C.Cloud c.args.asks.now c.collect_gets.new.asks c.args.seats.now c.serve_gets.new.seats c.collect_gets.new.seats
+round : (g : Over) (c : goal.After-asks-1 g) → GetRound g.C.Cloud c.args.asks.now c.collect_gets.new.asks c.args.seats.now c.get_all.new.seats c.collect_gets.new.seats
 round g c = record {
   below = c.requires.below;
   once = c.requires.once;
-  served = c.serve_gets.ensures;
+  served = c.get_all.ensures;
   answers = c.collect_gets.ensures.answers;
   clouds = c.collect_gets.ensures.clouds;
   ended = λ a s t done. done.ended;

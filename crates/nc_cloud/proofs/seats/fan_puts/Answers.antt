@@ -5,11 +5,11 @@ use Rattle.nc_cloud.proofs.seats.fan_puts.Given.{Over}
 use Rattle.nc_cloud.proofs.seats.fan_puts.Goals as goal
 
 round : (g : Over) (c : goal.After-jobs-1 g)
-    → WriteRound g.C.Cloud ⊥ g.C.Cloud.faults g.C.Cloud.slips jobs c.args.jobs.now c.collect_puts.new.jobs c.args.seats.now c.serve_puts.new.seats
+    → WriteRound g.C.Cloud ⊥ g.C.Cloud.faults g.C.Cloud.slips jobs c.args.jobs.now c.collect_puts.new.jobs c.args.seats.now c.put_all.new.seats
 round g c = record {
   below = c.requires.below;
   once = c.requires.once;
-  served = c.serve_puts.ensures;
+  served = c.put_all.ensures;
   answers = c.collect_puts.ensures;
   clouds = refl;
   ended = λ j s t done. done.ended;
