@@ -25,7 +25,7 @@ same_payload w (Some bytes) p q first second = (same_parts bytes _ _ _ _ _ _ _ _
 same_payload w None p q first second = absurd first
 
 -- the bytes whose payload this is
-held_payload : (w : Wanted) (held : Option (List ℕ)) (payload : List ℕ) → HoldsPayload w held payload → (bytes : List ℕ) × (held ≡ Some bytes) × Sealed bytes w.cloud w.width (key_text w.key) payload
+pub held_payload : (w : Wanted) (held : Option (List ℕ)) (payload : List ℕ) → HoldsPayload w held payload → (bytes : List ℕ) × (held ≡ Some bytes) × Sealed bytes w.cloud w.width (key_text w.key) payload
 held_payload w (Some bytes) payload holds = (bytes, refl, holds)
 held_payload w None payload holds = absurd holds
 
@@ -63,13 +63,15 @@ module _ (n : ℕ) (name : List ℕ) (m : Live) (v : List ℕ) (F : Contents) (D
   }
 
   -- a right chunk isn't bad
-  right_not_bad : (c r : ℕ) (how : How) → c < n → r < 2 → IsBadRow n name m F c r how → IsRight n F (Stored m v) c (wanted_of n name m r c).key → ⊥
+  pub right_not_bad : (c r : ℕ) (how : How) → c < n → r < 2 → IsBadRow n name m F c r how → IsRight n F (Stored m v) c (wanted_of n name m r c).key → ⊥
   right_not_bad c r how l pair bad right =
       let marked = right_is_marked n name m v c (slice_index m.slots c) r valid l pair in
       not_bad (wanted_of n name m r c) (held_at n name m F c r) (chunk_of n m v r c)
       (subst (λ (h : Option (List ℕ)). HoldsPayload (wanted_of n name m r c) h (chunk_of n m v r c)) (sym right.stands) right.is_chunk) marked.0 marked.1 how bad
 
-  -- so a bad cloud is damaged
+  -- so it is on a damaged cloud
+  pub bad_row_is_damaged : (c r : ℕ) (how : How) → c < n → r < 2 → IsBadRow n name m F c r how → D c ≡ true
+  bad_row_is_damaged c r how l pair bad = wrong_is_damaged n F D name (Stored m v) c (wanted_of n name m r c).key places l (refl, refl, pair) (right_not_bad c r how l pair bad)
+
   pub bad_is_damaged : (c r : ℕ) (how : How) → c < n → IsFirstBad n name m F c r how → D c ≡ true
-  bad_is_damaged c r how l bad =
-      wrong_is_damaged n F D name (Stored m v) c (wanted_of n name m r c).key places l (refl, refl, bad.pair) (right_not_bad c r how l bad.pair bad.here)
+  bad_is_damaged c r how l bad = bad_row_is_damaged c r how l bad.pair bad.here

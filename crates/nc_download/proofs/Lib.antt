@@ -3,3 +3,4 @@ pub mod ChunkLaws
 pub mod ViewLaws
 pub mod FindLaws
 pub mod ListLaws
+pub mod GotLaws

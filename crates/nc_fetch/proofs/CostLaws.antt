@@ -51,7 +51,7 @@ module _ {A : Type 0} (F : FleetGhosts A) (name : List ℕ) (m : Live) (old new 
   fine c l None is = refl
   fine c l (Some why) is =
       let low : c < F.clouds old = omega (arith, l, within) in
-      let one : together D X c ≡ true = bad_cloud F name m old new P X told has risen S D stands bytes by before whys marked up_to c why low l tried is (why_at before c) refl in
+      let one : together D X c ≡ true = bad_cloud F name m old new P X told has risen S D bytes by before whys marked up_to c why low l tried is in
       let some : any_of (F.clouds old) (together D X) ≡ true = any_here (F.clouds old) (together D X) c low one in
       let no : true ≡ false = sym some ∙ none in
       absurd cc
@@ -69,7 +69,7 @@ module _ {A : Type 0} (F : FleetGhosts A) (name : List ℕ) (m : Live) (old new 
   reads_both c l =
       let low : c < F.clouds old = omega (arith, l, within) in
       let now : why_at whys c ≡ None = fine c l (why_at whys c) refl in
-      let was : why_at before c ≡ None = fine_before F name m old new P X told has risen S D stands bytes by before whys marked up_to c low tried now (why_at before c) refl in
+      let was : why_at before c ≡ None = fine_before F name m old new before whys up_to c low tried now (why_at before c) refl in
       subst (Outcome F name m old new c) now (tried.tried c low (record { from = omega arith; below = l; fine = was }))
 
   pub reads_first : length (free whys 0 up_to) + 2 ≡ F.clouds old → ReadsFirst (F.clouds old) (F.chunk_gets old) (F.chunk_gets new)

@@ -1,5 +1,5 @@
 -- Tables and lists that grow by one cloud.
-use Rattle.std.proofs.Common.{◌≡◌, ◌<◌, ◌≤◌, ◌+◌, ◌++◌, ◌∷◌, ◌&&◌, ◌⊎◌, ℕ, suc, Bool, true, false, nat_le, nat_lt, Option, None, List, [], option_to_list, length, length-append, length-drop, get_or, set, length-set, drop, remove, inl, inr, refl, sym, ap, ◌∙◌, subst, arith}
+use Rattle.std.proofs.Common.{◌≡◌, ◌<◌, ◌≤◌, ◌+◌, ◌++◌, ◌∷◌, ◌&&◌, ◌⊎◌, ℕ, suc, Bool, true, false, nat_le, nat_lt, if◌then◌else◌, Option, None, Some, List, [], option_to_list, length, length-append, length-drop, get_or, set, length-set, drop, remove, inl, inr, refl, sym, ap, ◌∙◌, subst, arith}
 use Rattle.std.proofs.lemmas.Bool.{cases_lt}
 use Rattle.std.proofs.lemmas.Bool.Decides.{leb_tells}
 use Rattle.std.proofs.lemmas.List.{append_assoc, drop-drop, get_or-drop, get_or-set_other, get_or-set_same, get_or_append_left, get_or_default}
@@ -7,11 +7,12 @@ use Rattle.std.proofs.Math.Seq.{get_or-append_seam}
 use Rattle.nc_cloud.specs.Rounds.{some_row}
 use Rattle.nc_cloud.proofs.SomeRows.{some_more}
 use Rattle.nc_mix.specs.declared.pieces.Piece.{Piece}
+use Rattle.nc_settle.specs.MetaWrites.{named}
 use Rattle.nc_download.specs.declared.short.Why.{Why}
 use Rattle.nc_fetch.specs.declared.founds.Found.{Found}
 use Rattle.nc_fetch.specs.declared.founds.Found.TheVariants.{Unasked}
 use Rattle.nc_fetch.specs.Founds.{found_at, is_good, NamesGood}
-use Rattle.nc_fetch.specs.Whys.{AreMarked, NamesFree, free_between, is_fine, piece_at, piece_of, why_at, why_of}
+use Rattle.nc_fetch.specs.Whys.{AreMarked, AreMarkedWith, NamesFree, free_between, is_fine, piece_at, piece_of, why_at, why_of}
 
 -- a table, once entry k is set
 pub set_more : {X : Type 0} (d : X) (f : ℕ → X) (k : ℕ) (table : List X) (x : X) → k < length table → ((c : ℕ) → c < k → get_or table c d ≡ f c) → x ≡ f k → (c : ℕ) → c < k + 1 → get_or (set table k x) c d ≡ f c
@@ -43,6 +44,14 @@ marked_more zeros ones k old new why marked low is = record {
   each = set_more None (λ c. why_of (found_at zeros c) (found_at ones c) (why_at old c)) k new why (omega (arith, low, marked.long)) marked.each is;
   others = λ c l. get_or-set_other new k c why None (λ e. absurd (omega arith)) ∙ marked.others c (omega (arith, l));
 }
+
+pub marked_with_more : (why : Why) (on : List Bool) (k : ℕ) (whys : List (Option Why)) (mark : Option Why) (d : Bool) → length on ≡ 10 → k < 10 → (length whys ≡ 10) × AreMarkedWith why k (named on) whys → mark ≡ (if get_or on k d then Some why else None)
+    → (length (set whys k mark) ≡ 10) × AreMarkedWith why (k + 1) (named on) (set whys k mark)
+marked_with_more why on k whys mark d long low so_far is =
+    let here : mark ≡ (if named on k then Some why else None) = is ∙ ap (λ (b : Bool). if b then Some why else None) (get_or_default on k d false (omega (arith, long, low))) in (
+      length-set whys k mark ∙ so_far.0,
+      record { each = set_more None (λ c. if named on c then Some why else None) k whys mark (omega (arith, so_far.0, low)) so_far.1.each here },
+    )
 
 -- why cloud k is bad, where what it gave is read from lists
 pub why_here : (zeros ones : List Found) (whys : List (Option Why)) (k : ℕ) (zero one : Found) (d why : Option Why) → k < length zeros → k < length ones → k < length whys → zero ≡ get_or zeros k zero → one ≡ get_or ones k one

@@ -6,6 +6,7 @@ pub mod TriedLaws
 pub mod TryLaws
 pub mod BatchLaws
 pub mod PieceLaws
+pub mod MarkLaws
 pub mod PartLaws
 pub mod CostLaws
 pub mod FetchedLaws

@@ -1,6 +1,6 @@
 -- The pieces of the clouds that serve.
-use Rattle.std.proofs.Common.{◌≡◌, ◌<◌, ◌≤◌, ◌+◌, ◌-◌, ℕ, Bool, true, false, if◌then◌else◌, Option, None, Some, List, length, get_or, set, length-set, All, AllPairs, inl, inr, sym, ap, ◌∙◌, subst, arith}
-use Rattle.std.proofs.lemmas.List.{length-map, get_or-map, get_or_default}
+use Rattle.std.proofs.Common.{◌≡◌, ◌<◌, ◌+◌, ◌-◌, ℕ, Bool, true, false, if◌then◌else◌, Option, None, Some, List, length, get_or, All, AllPairs, inl, inr, sym, ap, ◌∙◌, subst, arith}
+use Rattle.std.proofs.lemmas.List.{length-map, get_or-map}
 use Rattle.nc_bytes.specs.Bytes.{AreBytes}
 use Rattle.nc_native.specs.Native.{chunk_size, combination}
 use Rattle.nc_code.specs.Codes.{code_row}
@@ -10,33 +10,17 @@ use Rattle.nc_cloud.proofs.SomeRows.{ascend_some}
 use Rattle.nc_meta.specs.declared.meta.Live.{Live}
 use Rattle.nc_mix.specs.declared.pieces.Piece.{Piece}
 use Rattle.nc_mix.specs.Decoding.{IsBefore, IsLong, IsPieceOf}
-use Rattle.nc_settle.specs.MetaWrites.{named}
-use Rattle.nc_state.specs.Clouds.{Clouds}
-use Rattle.nc_download.specs.declared.short.Bad.{Bad}
 use Rattle.nc_download.specs.declared.short.Why.{Why}
-use Rattle.nc_download.specs.declared.short.Why.TheVariants.{Failed}
 use Rattle.nc_download.specs.Chunks.{wanted_of}
 use Rattle.nc_download.specs.Clouds.{AreGoodRows, HoldsChunksOf}
-use Rattle.nc_fetch.specs.Parts.{AreMarkedFailed, ComesBackFrom, TooFewServe}
+use Rattle.nc_fetch.specs.Reading.{ComesFromUnmarked, TooFewUnmarked}
 use Rattle.nc_fetch.specs.Trying.{HasTriedAll, TriedBetween}
-use Rattle.nc_fetch.specs.Whys.{bads, free, free_at, is_fine, why_at}
+use Rattle.nc_fetch.specs.Whys.{free, free_at, is_fine, why_at}
 use Rattle.nc_download.proofs.ChunkLaws.{same_payload}
-use Rattle.nc_fetch.proofs.Growing.{set_more}
 
 free_cloud : (c x : ℕ) (b : Bool) → (if b then Some c else None) ≡ Some x → x ≡ c
 free_cloud c x true e = cc
 free_cloud c x false e = absurd cc
-
-pub failed_more : (failed : List Bool) (k : ℕ) (whys : List (Option Why)) (why : Option Why) (d : Bool) → length failed ≡ 10 → k < 10 → (length whys ≡ 10) × AreMarkedFailed k (named failed) whys → why ≡ (if get_or failed k d then Some Failed else None)
-    → (length (set whys k why) ≡ 10) × AreMarkedFailed (k + 1) (named failed) (set whys k why)
-failed_more failed k whys why d long low so_far is =
-    let here : why ≡ (if named failed k then Some Failed else None) = is ∙ ap (λ (b : Bool). if b then Some Failed else None) (get_or_default failed k d false (omega (arith, long, low))) in (
-      length-set whys k why ∙ so_far.0,
-      record { each = set_more None (λ c. if named failed c then Some Failed else None) k whys why (omega (arith, so_far.0, low)) so_far.1.each here },
-    )
-
-pub marked_first : (n : ℕ) (P : Clouds) (whys : List (Option Why)) → n ≤ 10 → AreMarkedFailed 10 P whys → AreMarkedFailed n P whys
-marked_first n P whys narrow marked = record { each = λ c l. marked.each c (omega (arith, l, narrow)) }
 
 module _ {A : Type 0} (F : FleetGhosts A) (name : List ℕ) (m : Live) (old new : A) (before whys : List (Option Why)) (pieces : List Piece) (tried : HasTriedAll F name m old new before whys pieces) (width : m.code.width ≡ F.clouds old) where
   ascend : AreAscending (λ p. p.cloud) (tried.up_to - 0) pieces
@@ -67,12 +51,9 @@ module _ {A : Type 0} (F : FleetGhosts A) (name : List ℕ) (m : Live) (old new 
         one = same_payload (wanted_of (F.clouds old) name m 1 p.cloud) _ _ _ good.second.holds (chunks.row 1 (omega arith)) ∙ ap (combination (code_row m.code p.cloud 1) v) (sym width);
       }
 
-  pub comes_from : (P : Clouds) (part : List ℕ) → AreMarkedFailed (F.clouds old) P before → length pieces + 2 ≡ F.clouds old → length part ≡ m.len
-      → ((v : List ℕ) → AreBytes v → length v ≡ m.len → All (IsPieceOf m.code v) pieces → part ≡ v) → ComesBackFrom F name m old new P part
-  comes_from P part marked enough long is = record {
-    before = before;
-    marked = marked;
-    whys = whys;
+  pub comes_unmarked : (file : List ℕ) → length pieces + 2 ≡ F.clouds old → length file ≡ m.len → ((v : List ℕ) → AreBytes v → length v ≡ m.len → All (IsPieceOf m.code v) pieces → file ≡ v)
+      → ComesFromUnmarked F name m old new before whys file
+  comes_unmarked file enough long is = record {
     up_to = tried.up_to;
     within = tried.has.within;
     tried = tried.has.tried;
@@ -89,13 +70,9 @@ module _ {A : Type 0} (F : FleetGhosts A) (name : List ℕ) (m : Live) (old new 
     | inr enough ↦ absurd (omega (arith, few, enough))
   ]
 
-  pub too_few : (P : Clouds) (list : List Bad) → AreMarkedFailed (F.clouds old) P before → length pieces + 2 < F.clouds old → list ≡ bads whys 0 (F.clouds old) → TooFewServe F name m old new P list
-  too_few P list marked few listed = record {
-    before = before;
-    marked = marked;
-    whys = whys;
+  pub too_few_unmarked : length pieces + 2 < F.clouds old → TooFewUnmarked F name m old new before whys
+  too_few_unmarked few = record {
     tried = subst (λ (b : ℕ). TriedBetween F name m old new 0 b before whys) (ended_all few) tried.has.tried;
     alone = tried.has.alone;
     few = let all = ended_all few in let same : length (free whys 0 (F.clouds old)) ≡ length (free whys 0 tried.up_to) = ap (λ b. length (free whys 0 b)) (sym all) in omega (arith, same, few, length_is);
-    listed = listed;
   }

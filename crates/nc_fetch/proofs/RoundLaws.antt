@@ -1,7 +1,6 @@
 -- What a round of chunks gives of each cloud.
-use Rattle.std.proofs.Common.{◌≡◌, ◌≢◌, ◌<◌, ◌+◌, ◌-◌, ◌++◌, ◌∷◌, ◌&&◌, ℕ, zero, suc, Bool, true, false, if◌then◌else◌, Option, None, Some, List, [], option_to_list, map, length, get_or, remove, All, AllPairs, Contains, inl, inr, refl, sym, ap, ◌∙◌, subst, arith}
+use Rattle.std.proofs.Common.{◌≡◌, ◌≢◌, ◌<◌, ◌+◌, ◌-◌, ◌++◌, ◌∷◌, ◌&&◌, ℕ, suc, Bool, true, false, if◌then◌else◌, Option, None, Some, List, [], option_to_list, map, length, get_or, remove, All, Contains, inl, inr, refl, sym, ap, ◌∙◌, subst, arith}
 use Rattle.std.proofs.lemmas.Bool.{cases_lt}
-use Rattle.std.proofs.lemmas.Bool.Decides.{eqb_tells}
 use Rattle.std.proofs.lemmas.List.{get_or_default}
 use Rattle.std.proofs.lemmas.List.Elements.{All-contains}
 use Rattle.nc_name.specs.declared.key.Key.{Key}
@@ -10,7 +9,7 @@ use Rattle.nc_cloud.specs.declared.fleet.Answer.TheVariants as answer
 use Rattle.nc_cloud.specs.declared.fleet.Fleet.{Ghosts as FleetGhosts}
 use Rattle.nc_cloud.specs.Contents.{Rose}
 use Rattle.nc_cloud.specs.Deciding.{AreAscending}
-use Rattle.nc_cloud.specs.Fleet.{asked, chunks_got, got_count, is_bytes, is_chunk, Answers, Shows}
+use Rattle.nc_cloud.specs.Fleet.{asked, got_count, is_bytes, is_chunk, Answers, Shows}
 use Rattle.nc_cloud.specs.Rounds.{some_row}
 use Rattle.nc_cloud.proofs.Decisions.{once}
 use Rattle.nc_cloud.proofs.Fans.{got_none}
@@ -22,6 +21,7 @@ use Rattle.nc_fetch.specs.declared.founds.Found.{Found}
 use Rattle.nc_fetch.specs.declared.founds.Found.TheVariants.{Unasked, Good, Bad}
 use Rattle.nc_fetch.specs.Asking.{AreAnswered, GaveAtMost, GaveRow, RowIsAsked}
 use Rattle.nc_download.specs.Chunks.{chunk_ask, frame_len, wanted_of}
+use Rattle.nc_download.proofs.GotLaws.{none_got, one_got}
 use Rattle.nc_fetch.specs.Founds.{chunk_ask_on, found_at, is_asked, AreFound, AreLeft, FoundOn, IsFoundFrom}
 
 -- ---- entries, one after the other
@@ -69,41 +69,6 @@ module _ (n : ℕ) (name : List ℕ) (m : Live) (r : ℕ) (P : Clouds) where
   pub taken : (c : ℕ) (all left next : List Ask) (x : Ask) → c < n → P c ≡ true → AreLeft n name m r P c all left → x ≡ get_or left 0 x → next ≡ remove left 0
       → (asked x ≡ chunk_ask n name m r c) × Contains all x × AreLeft n name m r P (c + 1) all next
   taken c all left next x low within l is removed = took c all left next x (some_row entry (c + 1) (n - (c + 1))) (front_row c left low within l.asks) refl l.among is removed
-
--- ---- chunks that a cloud gave
-
-none_more : {k : ℕ} → k ≡ 0 → 0 + k ≡ 0
-none_more e = omega (arith, e)
-
-skip : (c : ℕ) (a : Ask) (asks : List Ask) → a.cloud ≢ c → chunks_got c (a ∷ asks) ≡ chunks_got c asks
-skip c a asks other =
-    elim (eqb_tells a.cloud c) [
-      | inl same ↦ absurd (other same.1)
-      | inr differs ↦ ap (λ (b : Bool). (if b && (is_chunk a.key && is_bytes a.answer) then 1 else 0) + chunks_got c asks) differs.0 ∙ omega arith
-    ]
-
-pub none_got : (c : ℕ) (asks : List Ask) → All (λ a. a.cloud ≢ c) asks → chunks_got c asks ≡ 0
-none_got c [] none = refl
-none_got c (a ∷ asks) none = skip c a asks (none 0 a (omega arith)) ∙ none_got c asks (λ k d l. none (suc k) d (omega (arith, l)))
-
-one_here : (c : ℕ) (a : Ask) (asks : List Ask) → a.cloud ≡ c → All (λ b. b.cloud ≢ c) asks → chunks_got c (a ∷ asks) ≡ (if is_chunk a.key && is_bytes a.answer then 1 else 0)
-one_here c a asks same none =
-    elim (eqb_tells a.cloud c) [
-      | inl equal ↦ ap (λ (b : Bool). (if b && (is_chunk a.key && is_bytes a.answer) then 1 else 0) + chunks_got c asks) equal.0 ∙ ap (λ k. (if is_chunk a.key && is_bytes a.answer then 1 else 0) + k) (none_got c asks none) ∙ omega arith
-      | inr differs ↦ absurd (differs.1 same)
-    ]
-
-pub one_got : (c : ℕ) (asks : List Ask) (x : Ask) → AllPairs (λ a b. a.cloud < b.cloud) asks → Contains asks x → x.cloud ≡ c → chunks_got c asks ≡ (if is_chunk x.key && is_bytes x.answer then 1 else 0)
-one_got c [] x rising (i, l, is) same = absurd (omega arith)
-one_got c (a ∷ asks) x rising (zero, l, is) same =
-    let here : a.cloud ≡ c = ap (λ (b : Ask). b.cloud) is ∙ same in
-    one_here c a asks here (λ k d m e. let less : a.cloud < (get_or asks k d).cloud = rising 0 (suc k) d (omega arith) (omega (arith, m)) in omega (arith, less, here, e))
-    ∙ ap (λ (b : Ask). if is_chunk b.key && is_bytes b.answer then 1 else 0) is
-one_got c (a ∷ asks) x rising (suc i, l, is) same =
-    let less : a.cloud < (get_or asks i x).cloud = rising 0 (suc i) x (omega arith) l in
-    let there : (get_or asks i x).cloud ≡ x.cloud = ap (λ (b : Ask). b.cloud) is in
-    skip c a asks (λ e. omega (arith, less, there, same, e))
-    ∙ one_got c asks x (λ j k d m n. rising (suc j) (suc k) d (omega (arith, m)) (omega (arith, n))) (i, omega (arith, l), is) same
 
 -- ---- the entries of a round
 

@@ -2,6 +2,7 @@ pub mod Founds
 pub mod Asking
 pub mod Whys
 pub mod Trying
+pub mod Reading
 pub mod Parts
 pub mod Fetching
 pub mod PartsOnVaults

@@ -57,6 +57,10 @@ pub record AreMarked (zeros ones : List Found) (k : ℕ) (old new : List (Option
   pub each : (c : ℕ) → c < k → why_at new c ≡ why_of (found_at zeros c) (found_at ones c) (why_at old c)
   pub others : (c : ℕ) → k ≤ c → why_at new c ≡ why_at old c
 
+-- of n clouds exactly those of P are marked with this cause
+pub record AreMarkedWith (why : Why) (n : ℕ) (P : Clouds) (whys : List (Option Why)) : Type 0 where
+  pub each : (c : ℕ) → c < n → why_at whys c ≡ (if P c then Some why else None)
+
 -- both chunks of a cloud
 abbrev pub piece_of : ℕ → Found → Found → Option Piece
 piece_of c Unasked one = None

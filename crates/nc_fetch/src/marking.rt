@@ -44,7 +44,7 @@ pub(crate) fn is_fine(whys: &[Option<Why>; 10], cloud: u8) -> bool
 }
 
 /// Whether a table names a cloud.
-pub(crate) fn is_named(on: &[bool; 10], cloud: u8) -> bool
+pub fn is_named(on: &[bool; 10], cloud: u8) -> bool
     requires { cloud < 10 }
     ensures { result ≡ named on.now cloud }
 {

@@ -1,20 +1,18 @@
-ghost use Rattle.std.specs.Prelude.{◌≡◌, ◌<◌, ◌≤◌, ◌++◌, IfErr, IfOk, None, Some, if◌then◌else◌, length, option_to_list};
+ghost use Rattle.std.specs.Prelude.{◌≡◌, ◌≤◌, IfErr, IfOk};
 ghost use Rattle.nc_code.specs.Codes.{IsMds};
 ghost use Rattle.nc_cloud.specs.Deciding.{OnlyLooked};
 ghost use Rattle.nc_cloud.specs.Stopping.{Stops};
 ghost use Rattle.nc_meta.specs.Metas.{IsLive};
 ghost use Rattle.nc_settle.specs.MetaWrites.{named};
 ghost use Rattle.nc_fetch.specs.declared.parts.PartFault.TheVariants.{Memory as NoMemory};
-ghost use Rattle.nc_fetch.specs.Parts.{AreMarkedFailed, ComesBackFrom, LacksFor};
+ghost use Rattle.nc_fetch.specs.Parts.{ComesBackFrom, LacksFor};
 ghost use Rattle.nc_fetch.specs.PartsOnVaults.{PartShows};
-ghost use Rattle.nc_fetch.specs.Whys.{bad_with, bads, why_at};
-ghost use Rattle.nc_download.specs.declared.short.Why.TheVariants.{Failed};
 
-use crate::trying::try_clouds;
+use crate::causes::{marked_with, short_list};
+use crate::reading::read_unmarked;
 use nc_cloud::Fleet;
-use nc_download::{Bad, ShortList, Why};
+use nc_download::{ShortList, Why};
 use nc_meta::Live;
-use nc_mix::{Open, decode};
 use nc_name::{Blob, Memory, Name};
 use std::alloc::Global;
 use std::thread::Threads;
@@ -67,57 +65,10 @@ pub fn read_part<R: Threads + Sync, F: Fleet>(
     ensures stops { Stops F.Fleet fleet.old fleet.new (λ G. G ≡ F.held fleet.old) }
 {
     let width = fleet.width() as u8;
-    let mut whys = failed_whys(failed);
-    let pieces = try_clouds(alloc, fleet, name, live, &mut whys)?;
-    if pieces.len() + 2 < usize::from(width) {
-        return Err(PartFault::Short(short_list(&whys, width)));
-    }
-    let part = decode(rt, alloc, &pieces, &live.code, live.len, workers, &Open)?;
-    Ok(part)
-}
-
-/// The clouds that `failed` names, as clouds that were found to have failed.
-fn failed_whys(failed: &[bool; 10]) -> [Option<Why>; 10]
-    ensures { AreMarkedFailed 10 (named failed.now) result }
-{
-    let mut whys = [None; 10];
-    for cloud in 0..10 {
-        whys[cloud] = failed_why(failed[cloud]);
-    }
-    whys
-}
-
-fn failed_why(failed: bool) -> Option<Why>
-    ensures { result ≡ (if failed then Some Failed else None) }
-{
-    if failed { Some(Why::Failed) } else { None }
-}
-
-/// The clouds that were found bad, each with its cause.
-fn short_list(whys: &[Option<Why>; 10], width: u8) -> ShortList
-    requires { width ≤ 10 }
-    ensures { result ≡ bads whys.now 0 width }
-{
-    let mut list = ShortList::new();
-    for cloud in 0..width {
-        push_bad(&mut list, cloud, why_of(whys, cloud));
-    }
-    list
-}
-
-fn why_of(whys: &[Option<Why>; 10], cloud: u8) -> Option<Why>
-    requires { cloud < 10 }
-    ensures { result ≡ why_at whys.now cloud }
-{
-    whys[cloud as usize]
-}
-
-/// Adds a cloud, where it was found bad.
-fn push_bad(list: &mut ShortList, cloud: u8, why: Option<Why>)
-    requires { length list.old < 10 }
-    ensures { list.new ≡ list.old ++ option_to_list (bad_with cloud why) }
-{
-    if let Some(why) = why {
-        list.push(Bad { cloud, why });
+    let mut whys = marked_with(failed, Why::Failed);
+    let read = read_unmarked(rt, alloc, fleet, name, live, &mut whys, workers)?;
+    match read {
+        Some(part) => Ok(part),
+        None => Err(PartFault::Short(short_list(&whys, width))),
     }
 }

@@ -182,7 +182,7 @@ fn get_all<F: Fleet>(fleet: &mut F, asks: &mut [Ask])
 }
 
 /// An ask for the chunk of this row, one for each cloud that `on` names.
-fn asks_on(
+pub fn asks_on(
     alloc: Global,
     width: u8,
     name: &Name,

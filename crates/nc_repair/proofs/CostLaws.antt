@@ -11,7 +11,7 @@ use Rattle.nc_cloud.specs.Fleet.{Shows, asked, chunks_got, is_bytes, is_chunk}
 use Rattle.nc_cloud.proofs.Rounds.{row_at}
 use Rattle.nc_meta.specs.declared.meta.Live.{Live}
 use Rattle.nc_download.specs.Clouds.{IsGoodRow}
-use Rattle.nc_fetch.proofs.RoundLaws.{none_got, one_got}
+use Rattle.nc_download.proofs.GotLaws.{none_got, one_got}
 use Rattle.nc_repair.specs.declared.fault.RepairFault.{RepairFault}
 use Rattle.nc_repair.specs.declared.fault.RepairFault.TheVariants as fault
 use Rattle.nc_repair.specs.Asking.{AreAnswers, AreSurvivorAsks, survivor_ask}

@@ -1,5 +1,5 @@
 -- What the round of one row shows of the clouds to be restored.
-use Rattle.std.proofs.Common.{◌≡◌, ◌≢◌, ◌<◌, ◌≤◌, ◌+◌, ◌&&◌, nat_eq, AllPairs, ℕ, zero, suc, replicate, Bool, true, false, if◌then◌else◌, None, Some, List, [], ◌∷◌, All, Contains, map, length, get_or, set, length-set, Result, Ok, Err, inl, inr, refl, sym, ap, ◌∙◌, subst, arith}
+use Rattle.std.proofs.Common.{◌≡◌, ◌≢◌, ◌<◌, ◌+◌, ◌&&◌, ℕ, zero, suc, replicate, Bool, true, false, if◌then◌else◌, None, Some, List, [], ◌∷◌, All, Contains, map, length, get_or, set, length-set, Result, Ok, Err, inl, inr, refl, sym, ap, ◌∙◌, subst, arith}
 use Rattle.std.proofs.lemmas.Bool.{cases_lt}
 use Rattle.std.proofs.lemmas.Bool.Decides.{eqb_tells}
 use Rattle.std.proofs.lemmas.List.{get_or-set_other, get_or-set_same}
@@ -21,7 +21,8 @@ use Rattle.nc_download.specs.declared.judging.Wanted.{Wanted}
 use Rattle.nc_download.specs.Chunks.{chunk_ask, frame_len, wanted_of}
 use Rattle.nc_download.specs.Clouds.{held_at}
 use Rattle.nc_fetch.specs.Founds.{AreLeft, chunk_ask_on}
-use Rattle.nc_fetch.proofs.RoundLaws.{asks_ascend, entry_cloud, none_got, one_got}
+use Rattle.nc_download.proofs.GotLaws.{few_got, none_got, one_got}
+use Rattle.nc_fetch.proofs.RoundLaws.{asks_ascend, entry_cloud}
 use Rattle.nc_fetch.specs.Asking.{GaveAtMost}
 use Rattle.nc_cloud.proofs.Fans.{got_none}
 use Rattle.nc_restore.specs.declared.fault.RestoreFault.TheVariants as fault
@@ -88,29 +89,9 @@ module _ {A : Type 0} (F : FleetGhosts A) (name : List ℕ) (m : Live) (r : ℕ)
   abbrev one_if : Bool → ℕ
   one_if b = if b then 1 else 0
 
-  abbrev counts_of : Ask → ℕ → ℕ
-  counts_of a c = one_if (nat_eq a.cloud c && (is_chunk a.key && is_bytes a.answer))
-
-  one_most : (b : Bool) → one_if b ≤ 1
-  one_most true = omega arith
-  one_most false = omega arith
-
-  got_one : (c : ℕ) (xs : List Ask) → AllPairs (λ a b. a.cloud < b.cloud) xs → chunks_got c xs ≤ 1
-  got_one c [] rising = omega arith
-  got_one c (a ∷ xs) rising =
-      let here : counts_of a c ≤ 1 = one_most (nat_eq a.cloud c && (is_chunk a.key && is_bytes a.answer)) in
-      elim (eqb_tells a.cloud c) [
-        | inl same ↦
-            let none : chunks_got c xs ≡ 0 = none_got c xs (λ k d l e. let less : a.cloud < (get_or xs k d).cloud = rising 0 (suc k) d (omega arith) (omega (arith, l)) in let at : a.cloud ≡ c = same.1 in omega (arith, less, at, e)) in
-            omega (arith, here, none)
-        | inr differs ↦
-            let none : counts_of a c ≡ 0 = ap (λ (b : Bool). one_if (b && (is_chunk a.key && is_bytes a.answer))) differs.0 in
-            omega (arith, none, got_one c xs (λ j k d l o. rising (suc j) (suc k) d (omega (arith, l)) (omega (arith, o))))
-      ]
-
   got_few : (width : ℕ) (asks : List (ℕ × Key × ℕ)) (ended : List Ask) (result : Result (Unit {0}) RoundFault) → width ≡ F.clouds old → asks ≡ some_row (chunk_ask_on width name m r P) 0 width → GotRow F asks ended old new result → (c : ℕ)
       → GaveAtMost 1 (F.chunk_gets old c) (F.chunk_gets new c)
-  got_few width asks ended result is all got c = record { given = chunks_got c ended; few = got_one c ended (round_ascends width ended is (got.same ∙ all)).rising; is = got.gets c }
+  got_few width asks ended result is all got c = record { given = chunks_got c ended; few = few_got c ended (round_ascends width ended is (got.same ∙ all)).rising; is = got.gets c }
 
   unasked_none : (width : ℕ) (ended : List Ask) → map asked ended ≡ some_row (chunk_ask_on width name m r P) 0 width → (c : ℕ) → P c ≡ false → chunks_got c ended ≡ 0
   unasked_none width ended all c out =

@@ -24,6 +24,7 @@ use Rattle.nc_state.proofs.CommandLaws.{stays_at_rest}
 use Rattle.nc_state.proofs.RightTests.{right_is_tested}
 use Rattle.nc_write.specs.InTurn.{WroteInTurn}
 use Rattle.nc_write.specs.Writes.{AreChunkWrites, chunk_key}
+use Rattle.nc_download.proofs.ChunkLaws.{bad_row_is_damaged, right_not_bad}
 use Rattle.nc_write.proofs.ChunkRounds.{both_right, right_still}
 use Rattle.nc_restore.specs.declared.fault.RestoreFault.{RestoreFault}
 use Rattle.nc_restore.specs.declared.making.RestoreWrites.{RestoreWrites}
@@ -34,7 +35,7 @@ use Rattle.nc_repair.proofs.ChosenLaws.{version_is}
 use Rattle.nc_restore.proofs.DoneLaws.{Made, counts_same, did_ok, judged_by, judged_good, looks_keep, none_there, writes_at}
 use Rattle.nc_restore.proofs.FileLaws.{file_is}
 use Rattle.nc_restore.proofs.RoundLaws.{BothWrote, both_wrote, turn_keeps}
-use Rattle.nc_restore.proofs.RowLaws.{bad_damaged, bad_not_right, good_is_right, row_at_rest, row_is_right, row_untouched}
+use Rattle.nc_restore.proofs.RowLaws.{good_is_right, row_at_rest, row_is_right, row_untouched}
 
 -- the test of a chunk, by what it is
 wrong_by : (p b : Bool) (R : Type 0) (t : Bool) → ((t ≡ true → R) × (R → t ≡ true)) → (p ≡ true → b ≡ true → R → ⊥) → (p ≡ true → b ≡ false → R) → (b ≡ true → p ≡ true) → b ≡ (p && not t)
@@ -68,19 +69,19 @@ module _ {A : Type 0} (F : FleetGhosts A) (name : List ℕ) (m : Live) (P : Clou
     bad_is_damaged : (mid : A) (bad : ℕ → Clouds) → AreJudged F name m P old mid bad → (r : ℕ) → r < 2 → (c : ℕ) → c < n → bad r c ≡ true → D c ≡ true
     bad_is_damaged mid bad judged r pair c low is =
         let how = judged_by n name m (F.held old) c r (bad r c) is (judged.judged told c r low pair (judged.only c r pair is).1) in
-        bad_damaged n name m v (F.held old) D valid places c r how.0 low pair how.1
+        bad_row_is_damaged n name m v (F.held old) D valid places c r how.0 low pair how.1
 
     good_right : (mid : A) (bad : ℕ → Clouds) → AreJudged F name m P old mid bad → (r : ℕ) → r < 2 → (c : ℕ) → c < n → P c ≡ true → bad r c ≡ false → IsRight n (F.held old) (Stored m v) c (chunk_key name m r c)
     good_right mid bad judged r pair c low one is =
         let good = judged_good n name m (F.held old) c r (bad r c) is (judged.judged told c r low pair one) in
-        good_is_right n name m v (F.held old) D valid places c r good.0 low pair good.1
+        good_is_right n name m v (F.held old) D places c r good.0 low pair good.1
 
     -- a chunk is judged bad exactly where it isn't right
     bad_is_wrong : IsName name → (mid : A) (bad : ℕ → Clouds) → AreJudged F name m P old mid bad → (r : ℕ) → r < 2 → (c : ℕ) → c < n → bad r c ≡ wrong_at n name m v P (F.held old) r c
     bad_is_wrong is_name mid bad judged r pair c low =
         wrong_by (P c) (bad r c) (IsRight n (F.held old) (Stored m v) c (chunk_key name m r c)) (is_right n (F.held old) (Stored m v) c (chunk_key name m r c))
         (right_is_tested n (F.held old) name (Stored m v) c (chunk_key name m r c) is_name valid low (refl, refl, pair))
-        (λ one is right. let how = judged_by n name m (F.held old) c r (bad r c) is (judged.judged told c r low pair one) in bad_not_right n name m v (F.held old) D valid places c r how.0 low pair how.1 right)
+        (λ one is right. let how = judged_by n name m (F.held old) c r (bad r c) is (judged.judged told c r low pair one) in right_not_bad n name m v (F.held old) D valid places c r how.0 low pair how.1 right)
         (λ one is. good_right mid bad judged r pair c low one is) (λ is. (judged.only c r pair is).1)
 
     counts_wrong : IsName name → (mid : A) (bad : ℕ → Clouds) → AreJudged F name m P old mid bad → bad_count n bad ≡ wrong_count n name m v P (F.held old)

@@ -1,8 +1,7 @@
 -- A round of chunks that are made anew, over contents.
-use Rattle.std.proofs.Common.{◌≡◌, ◌<◌, ◌≤◌, ◌+◌, ◌*◌, ◌++◌, ℕ, zero, suc, Bool, true, if◌then◌else◌, Option, None, Some, List, [], option_to_list, All, length, slice_index_or, slice_index, inl, inr, refl, sym, ap, ◌∙◌, subst, arith}
+use Rattle.std.proofs.Common.{◌≡◌, ◌<◌, ◌≤◌, ◌+◌, ◌*◌, ◌++◌, ℕ, zero, suc, Bool, true, if◌then◌else◌, Option, None, Some, List, [], option_to_list, All, slice_index_or, inl, inr, refl, sym, ap, ◌∙◌, subst, arith}
 use Rattle.std.specs.Option.{option_map}
 use Rattle.std.proofs.lemmas.Bool.{cases_lt}
-use Rattle.sha2.specs.Sha256.{sha256}
 use Rattle.nc_name.specs.declared.key.Key.{Key}
 use Rattle.nc_name.specs.Keys.{key_text}
 use Rattle.nc_frame.specs.Frames.{HasFrame, Sealed, frame}
@@ -20,16 +19,12 @@ use Rattle.nc_state.specs.Clouds.{Clouds}
 use Rattle.nc_state.specs.Right.{IsRight, PlacesStand, payload_at}
 use Rattle.nc_state.specs.Rounds.{IsImage, LeavesAtRest}
 use Rattle.nc_state.specs.Rounds.LeavesAtRest.{right}
-use Rattle.nc_state.specs.Versions.{IsValidFor}
 use Rattle.nc_state.specs.Versions.Version.{Stored}
-use Rattle.nc_state.proofs.ChunkLaws.{only_right_is_sealed, right_is_marked, wrong_is_damaged}
+use Rattle.nc_state.proofs.ChunkLaws.{only_right_is_sealed}
 use Rattle.nc_state.proofs.Images.{round_image}
-use Rattle.nc_download.specs.declared.judging.Wanted.{Wanted}
-use Rattle.nc_download.specs.declared.short.How.{How}
-use Rattle.nc_download.specs.declared.short.How.TheVariants.{Missing, Broken, Marked}
-use Rattle.nc_download.specs.Chunks.{ChunkIs, HoldsPayload, wanted_of}
-use Rattle.nc_download.specs.Clouds.{IsBadRow, IsGoodRow, chunk_of, held_at}
-use Rattle.nc_download.proofs.ChunkLaws.{same_payload}
+use Rattle.nc_download.specs.Chunks.{wanted_of}
+use Rattle.nc_download.specs.Clouds.{IsGoodRow, held_at}
+use Rattle.nc_download.proofs.ChunkLaws.{held_payload}
 use Rattle.nc_write.specs.declared.sealing.Placed.{Placed}
 use Rattle.nc_write.specs.Putting.{placed_of}
 use Rattle.nc_write.specs.Writes.{AreChunkWrites, chunk_key, chunk_write}
@@ -127,29 +122,9 @@ module _ (n : ℕ) (name : List ℕ) (m : Live) (bad : Clouds) (r : ℕ) (chunks
           is_chunk = sealed_at c low is;
         }
 
--- ---- good and bad chunks of a version that stands
+-- ---- good chunks of a version that stands
 
--- a chunk that has the length and the digest that are wanted isn't bad
-not_bad : (w : Wanted) (held : Option (List ℕ)) (payload : List ℕ) → HoldsPayload w held payload → length payload ≡ w.size → sha256 payload ≡ w.mark → (how : How) → ChunkIs w held how → ⊥
-not_bad w held payload holds long marked Missing is = absurd (subst (λ h. HoldsPayload w h payload) is holds)
-not_bad w held payload holds long marked Broken is = is.no_payload payload holds long
-not_bad w held payload holds long marked Marked is = is.other (ap sha256 (same_payload w held _ _ is.holds holds) ∙ marked)
-
--- the bytes whose payload this is
-held_payload : (w : Wanted) (held : Option (List ℕ)) (payload : List ℕ) → HoldsPayload w held payload → (bytes : List ℕ) × (held ≡ Some bytes) × Sealed bytes w.cloud w.width (key_text w.key) payload
-held_payload w (Some bytes) payload holds = (bytes, refl, holds)
-held_payload w None payload holds = absurd holds
-
-module _ (n : ℕ) (name : List ℕ) (m : Live) (v : List ℕ) (H : Contents) (D : Clouds) (valid : IsValidFor n m v) (places : PlacesStand n H D name (Stored m v)) where
-  pub bad_not_right : (c r : ℕ) (how : How) → c < n → r < 2 → IsBadRow n name m H c r how → IsRight n H (Stored m v) c (chunk_key name m r c) → ⊥
-  bad_not_right c r how l pair bad is =
-      let marked = right_is_marked n name m v c (slice_index m.slots c) r valid l pair in
-      not_bad (wanted_of n name m r c) (held_at n name m H c r) (chunk_of n m v r c)
-      (subst (λ (h : Option (List ℕ)). HoldsPayload (wanted_of n name m r c) h (chunk_of n m v r c)) (sym is.stands) is.is_chunk) marked.0 marked.1 how bad
-
-  pub bad_damaged : (c r : ℕ) (how : How) → c < n → r < 2 → IsBadRow n name m H c r how → D c ≡ true
-  bad_damaged c r how l pair bad = wrong_is_damaged n H D name (Stored m v) c (chunk_key name m r c) places l (refl, refl, pair) (bad_not_right c r how l pair bad)
-
+module _ (n : ℕ) (name : List ℕ) (m : Live) (v : List ℕ) (H : Contents) (D : Clouds) (places : PlacesStand n H D name (Stored m v)) where
   pub good_is_right : (c r : ℕ) (payload : List ℕ) → c < n → r < 2 → IsGoodRow n name m H c r payload → IsRight n H (Stored m v) c (chunk_key name m r c)
   good_is_right c r payload l pair good =
       let held = held_payload (wanted_of n name m r c) (held_at n name m H c r) payload good.holds in

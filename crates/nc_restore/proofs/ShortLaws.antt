@@ -1,10 +1,9 @@
 -- Where too few clouds are good, more than two are damaged, to be restored or failing.
-use Rattle.std.proofs.Common.{◌≡◌, ◌<◌, ◌≤◌, ◌+◌, ◌-◌, ◌||◌, ℕ, Bool, true, false, if◌then◌else◌, Option, None, Some, List, Result, IfErr, length, refl, sym, ap, ◌∙◌, subst, arith}
+use Rattle.std.proofs.Common.{◌≡◌, ◌<◌, ◌≤◌, ◌+◌, ◌||◌, ℕ, Bool, true, false, Option, List, Result, IfErr, length, refl, sym, subst, arith}
 use Rattle.nc_cloud.specs.declared.deciding.RoundFault.{RoundFault}
 use Rattle.nc_cloud.specs.declared.deciding.RoundFault.TheVariants as round
 use Rattle.nc_cloud.specs.declared.fleet.Fleet.{Ghosts as FleetGhosts}
 use Rattle.nc_cloud.specs.Contents.{Contents, Rose}
-use Rattle.nc_cloud.specs.Rounds.{some_row}
 use Rattle.nc_meta.specs.declared.meta.Live.{Live}
 use Rattle.nc_state.specs.Clouds.{Clouds}
 use Rattle.nc_state.specs.Right.{PlacesStand}
@@ -13,11 +12,9 @@ use Rattle.nc_state.specs.Versions.{IsValidFor}
 use Rattle.nc_state.specs.Versions.Version.{Stored}
 use Rattle.nc_download.specs.declared.short.Bad.{Bad}
 use Rattle.nc_download.specs.declared.short.Why.{Why}
-use Rattle.nc_download.specs.declared.short.Why.TheVariants.{Failed, Row}
-use Rattle.nc_download.proofs.ChunkLaws.{bad_is_damaged}
-use Rattle.nc_fetch.specs.Trying.{IsWhy, Outcome, TriedBetween}
-use Rattle.nc_fetch.specs.Whys.{free, free_at, why_at}
-use Rattle.nc_fetch.proofs.PartLaws.{bads_counted, counted}
+use Rattle.nc_fetch.specs.Trying.{TriedBetween}
+use Rattle.nc_fetch.specs.Whys.{free}
+use Rattle.nc_fetch.proofs.PartLaws.{not_too_few}
 use Rattle.nc_restore.specs.declared.fault.RestoreFault.{RestoreFault}
 use Rattle.nc_restore.specs.Restoring.{AreUntried, Looked, RestoreDid, TooFewOutside, untried}
 use Rattle.nc_restore.specs.Restored.{IfShort, ShortShows}
@@ -41,25 +38,10 @@ third_of false false c e = e
 
 module _ {A : Type 0} (F : FleetGhosts A) (name : List ℕ) (m : Live) (P X D : Clouds) (mid new : A) (told : F.tells) (v : List ℕ) (valid : IsValidFor (F.clouds mid) m v) (places : PlacesStand (F.clouds mid) (F.held mid) D name (Stored m v))
     (risen : (c : ℕ) → c < F.clouds mid → Rose (F.faults mid c) (F.faults new c) → X c ≡ true) (before whys : List (Option Why)) (marked : AreUntried (F.clouds mid) P before) (tried : TriedBetween F name m mid new 0 (F.clouds mid) before whys) where
-  marked_by : (c : ℕ) (b : Bool) (why : Why) → P c ≡ b → (if b then Some untried else None) ≡ Some why → P c ≡ true
-  marked_by c true why is e = is
-  marked_by c false why is e = absurd cc
-
-  bad_by : (c : ℕ) (why : Why) → c < F.clouds mid → IsWhy F name m mid new c why → together (together D P) X c ≡ true
-  bad_by c Failed l rose = third_of (D c) (P c) (X c) (risen c l rose)
-  bad_by c (Row r how) l is = first_of (D c) (P c) (X c) (bad_is_damaged (F.clouds mid) name m v (F.held mid) D valid places c r how l (is told))
-
-  bad_cloud : (c : ℕ) (why : Why) → c < F.clouds mid → why_at whys c ≡ Some why → (w : Option Why) → why_at before c ≡ w → together (together D P) X c ≡ true
-  bad_cloud c why l bad None is =
-      let outcome = subst (Outcome F name m mid new c) bad (tried.tried c l (record { from = omega arith; below = l; fine = is })) in
-      bad_by c why l outcome.0
-  bad_cloud c why l bad (Some mark) is = second_of (D c) (P c) (X c) (marked_by c (P c) mark refl (sym (marked.each c l) ∙ is))
-
   too_many : length (free whys 0 (F.clouds mid)) + 2 < F.clouds mid → AreBearable (F.clouds mid) (together D P) X → ⊥
-  too_many few bearable =
-      let whole : F.clouds mid - 0 ≡ F.clouds mid = omega arith in
-      let free_is_whole : length (free whys 0 (F.clouds mid)) ≡ length (some_row (free_at whys) 0 (F.clouds mid)) = ap (λ k. length (some_row (free_at whys) 0 k)) whole in
-      omega (arith, free_is_whole, few, bearable, counted whys (F.clouds mid), bads_counted whys (together (together D P) X) (F.clouds mid) (λ c why l e. bad_cloud c why l e (why_at before c) refl))
+  too_many =
+      not_too_few F name m mid new before whys told D v valid places untried P (together (together D P) X) (record { each = marked.each }) (λ c l is. second_of (D c) (P c) (X c) is) (λ c l is. first_of (D c) (P c) (X c) is)
+      (λ c l rose. third_of (D c) (P c) (X c) (risen c l rose)) tried
 
 module _ {A : Type 0} (F : FleetGhosts A) (name : List ℕ) (m : Live) (P : Clouds) (old new : A) (told : F.tells) where
   short_shows : (list : List Bad) (bad : ℕ → Clouds) (mid : A) → Looked F name m P bad old mid new → TooFewOutside F name m mid new P list → ShortShows F name m P old new

@@ -1,3 +1,4 @@
 pub mod Asking
 pub mod Restored
 pub mod Restoring
+pub mod Reading

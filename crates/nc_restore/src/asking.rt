@@ -1,6 +1,6 @@
 //! The chunks of the clouds to be restored are asked for and judged.
-ghost use Rattle.std.specs.Prelude.{◌≡◌, ◌<◌, ◌≤◌, ◌+◌, ◌-◌, ◌++◌, List, All, map, option_to_list};
-ghost use Rattle.std.specs.Prelude.{IfErr, IfOk, OnOk, Ok, Err, true};
+ghost use Rattle.std.specs.Prelude.{◌≡◌, ◌<◌, ◌≤◌, ◌+◌, ◌-◌, List, All, map};
+ghost use Rattle.std.specs.Prelude.{IfErr, IfOk, Ok, Err, true};
 ghost use Rattle.nc_name.specs.Keys.{Slots};
 ghost use Rattle.nc_cloud.specs.Deciding.{AreAscending, IsSeen};
 ghost use Rattle.nc_cloud.specs.Fleet.{asked};
@@ -13,9 +13,10 @@ ghost use Rattle.nc_restore.specs.Asking.{AreJudgedTo, AskFails, GotRow, IsJudge
 
 use crate::fault::{RestoreFault, fault_of};
 use nc_cloud::{Answer, Ask, Fleet, RoundFault, ask_round};
-use nc_download::{Wanted, judge, push_ask, wanted};
+use nc_download::{Wanted, judge, wanted};
+use nc_fetch::{asks_on, is_named};
 use nc_meta::Live;
-use nc_name::{Memory, Name};
+use nc_name::Name;
 use std::alloc::Global;
 
 /// Asks the clouds that `on` names for their chunks of this row, in one round, and names those whose chunk isn't good.
@@ -46,63 +47,6 @@ pub(crate) fn judge_row<F: Fleet>(
         Ok(asks) => Ok(bad_ones(width, name, live, row, on, asks)),
         Err(fault) => Err(fault_of(fault)),
     }
-}
-
-/// An ask for the chunk of this row, one for each cloud that `on` names.
-fn asks_on(
-    alloc: Global,
-    width: u8,
-    name: &Name,
-    live: &Live,
-    row: u8,
-    on: &[bool; 10],
-) -> Result<Vec<Ask>, Memory>
-    requires wide { 4 ≤ width }
-    requires narrow { width ≤ 10 }
-    requires live { IsLive width live.now }
-    requires row { row < 2 }
-    ensures { IfOk result
-        (λ asks. map asked asks.items
-        ≡ some_row (chunk_ask_on width name.now live.now row (named on.now)) 0 width) }
-{
-    let mut asks = Vec::new(alloc);
-    for cloud in 0..width {
-        push_on(&mut asks, width, name, live, row, cloud, on)?;
-    }
-    Ok(asks)
-}
-
-/// Adds the ask of a cloud, where `on` names it.
-fn push_on(
-    asks: &mut Vec<Ask>,
-    width: u8,
-    name: &Name,
-    live: &Live,
-    row: u8,
-    cloud: u8,
-    on: &[bool; 10],
-) -> Result<(), Memory>
-    requires wide { 4 ≤ width }
-    requires narrow { width ≤ 10 }
-    requires live { IsLive width live.now }
-    requires row { row < 2 }
-    requires cloud { cloud < width }
-    ensures { OnOk result
-        (map asked asks.new.items ≡ map asked asks.old.items
-        ++ option_to_list (chunk_ask_on width name.now live.now row (named on.now) cloud)) }
-{
-    if is_on(on, cloud) {
-        push_ask(asks, &wanted(width, name, live, row, cloud))?;
-    }
-    Ok(())
-}
-
-/// Whether a table names a cloud.
-pub(crate) fn is_on(on: &[bool; 10], cloud: u8) -> bool
-    requires { cloud < 10 }
-    ensures { result ≡ named on.now cloud }
-{
-    on[usize::from(cloud)]
 }
 
 /// The same entries, answered in one round. The least that says nothing decides.
@@ -174,7 +118,7 @@ fn next_is_bad(
         → AreLeft width name.now live.now row (named on.now) cloud all asks.old.items
         → JudgedOn (named on.now cloud) width name.now live.now row cloud all result }
 {
-    if is_on(on, cloud) {
+    if is_named(on, cloud) {
         let ask = asks.remove(0);
         return is_bad(&wanted(width, name, live, row, cloud), &ask.answer);
     }

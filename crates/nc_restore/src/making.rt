@@ -7,9 +7,9 @@ ghost use Rattle.nc_settle.specs.MetaWrites.{named};
 ghost use Rattle.nc_write.specs.InTurn.{WroteInTurn};
 ghost use Rattle.nc_restore.specs.Restoring.{AreRestoreWrites, CanBeWritten, by_row, chosen_of, restore_rounds};
 
-use crate::asking::is_on;
 use nc_cloud::{Fleet, Job, RoundFault, write_row};
 use nc_code::Code;
+use nc_fetch::is_named;
 use nc_meta::Live;
 use nc_mix::{Chunks, Open, encode};
 use nc_name::{Blob, Memory, Name};
@@ -96,9 +96,9 @@ fn chosen_rows(
     let mut second = Vec::new(alloc);
     for cloud in 0..width {
         let zero = rest.remove(0);
-        place(&mut first, is_on(zeros, cloud), cloud, zero)?;
+        place(&mut first, is_named(zeros, cloud), cloud, zero)?;
         let one = rest.remove(0);
-        place(&mut second, is_on(ones, cloud), cloud, one)?;
+        place(&mut second, is_named(ones, cloud), cloud, one)?;
     }
     Ok(ChosenRows {
         zeros: first,

@@ -17,11 +17,12 @@ ghost use Rattle.nc_restore.specs.Restored.{ChangesOnlyBad, CountsWrong, HasRest
 ghost use Rattle.nc_restore.specs.Restored.{IfUnsound, RightRestored, ShortShows, StaysResting, TellsSoundness};
 ghost use Rattle.nc_restore.specs.Restoring.{AreJudged, LacksOutside, MadeOfFile, RestoreDid, bad_count, by_row, count_by};
 
-use crate::asking::{is_on, judge_row};
+use crate::asking::judge_row;
 use crate::fault::{RestoreFault, fault_of};
 use crate::making::{RestoreWrites, make_anew, write_anew};
 use crate::reading::read_outside;
 use nc_cloud::{Fleet, RoundFault};
+use nc_fetch::is_named;
 use nc_mds::{Verdict, check};
 use nc_meta::Live;
 use nc_name::Name;
@@ -223,7 +224,7 @@ fn count_on(on: &[bool; 10], width: u8) -> u64
 {
     let mut count = 0;
     for cloud in 0..width {
-        count = count_with(count, is_on(on, cloud));
+        count = count_with(count, is_named(on, cloud));
     }
     count
 }

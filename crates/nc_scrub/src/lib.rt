@@ -1,7 +1,6 @@
 //! What isn't right of one name on the clouds, told without a write.
 #![tactic(auto)]
 
-mod agreeing;
 mod asking;
 mod comparing;
 mod flaw;

@@ -4,12 +4,11 @@ ghost use Rattle.nc_cloud.specs.Stopping.{Stops};
 ghost use Rattle.nc_settle.specs.Settling.{HasSettleCause, SettleRefuses};
 ghost use Rattle.nc_scrub.specs.Flaws.{AreFlaws};
 
-use crate::agreeing::agreed;
 use crate::comparing::compare;
 use crate::flaw::Flaws;
 use nc_cloud::{Fleet, RoundFault};
 use nc_name::{Name, Sequence};
-use nc_settle::{SettleFault, look};
+use nc_settle::{SettleFault, agreed, look};
 use std::alloc::Global;
 
 /// Tells exactly what of a name isn't as its highest metadata says, by cloud, metadata first and then row by row. It writes

@@ -1,50 +1,27 @@
-use Rattle.std.proofs.Common.{◌≡◌, ◌∙◌, ◌<◌, ◌+◌, List, All, AllPairs, length, sym, ap, subst, arith}
-use Rattle.nc_native.specs.Native.{chunk_size}
-use Rattle.nc_mix.specs.declared.pieces.Piece.{Piece}
-use Rattle.nc_mix.specs.Decoding.{IsBefore, IsLong, IsPieceOf}
+use Rattle.std.proofs.Common.{◌∙◌, ap, subst}
 use Rattle.nc_settle.specs.MetaWrites.{named}
+use Rattle.nc_fetch.specs.Reading.{ReadsUnmarked}
 use Rattle.nc_fetch.specs.Whys.{bads}
 use Rattle.nc_fetch.specs.declared.parts.PartFault.TheVariants.{Short}
+use Rattle.nc_fetch.proofs.MarkLaws.{comes_from, failed_first, too_few}
 use Rattle.nc_fetch.proofs.PartLaws.{lacks_shows, part_shows}
-use Rattle.nc_fetch.proofs.PieceLaws.{comes_from, marked_first, pieces_ascend, pieces_long, pieces_within, too_few}
 use Rattle.nc_fetch.proofs.parts.read_part.Goals as goal
 
-pub decode-requires-clause-count : goal.decode-requires-clause-count
-decode-requires-clause-count g c = λ κ l.
-    let long : length c.deref.result.now ≡ length c.in_ok-pieces.pieces.items = ap length c.deref.ensures.value in
-    omega (arith, long, c.if-len-from.false, c.len.ensures, c.from.ensures, c.width-width.ensures, c.in_ok-pieces.ensures.tried.has.few, c.in_ok-pieces.pieces.ok, c.requires.live.width)
+pub returns-in-Some-clause-comes : goal.returns-in-Some-clause-comes
+returns-in-Some-clause-comes g c =
+    comes_from g.F.Fleet c.args.name.now c.args.live.now c.args.fleet.now c.read_unmarked.new.fleet (named c.args.failed.now) c.marked_with-whys.result c.read_unmarked.new.whys
+    (failed_first _ (named c.args.failed.now) c.marked_with-whys.result c.requires.narrow c.marked_with-whys.ensures) c.in-Some.part
+    (subst (ReadsUnmarked g.F.Fleet c.args.name.now c.args.live.now c.args.fleet.now c.read_unmarked.new.fleet c.marked_with-whys.result c.read_unmarked.new.whys) c.in-Some.is c.in_ok-read.ensures.reads)
 
-pub decode-requires-clause-ascending : goal.decode-requires-clause-ascending
-decode-requires-clause-ascending g c = λ κ l.
-    subst (λ (ps : List Piece). AllPairs IsBefore ps) (sym c.deref.ensures.value)
-    (pieces_ascend g.F.Fleet c.args.name.now c.args.live.now c.args.fleet.now c.try_clouds.new.fleet c.failed_whys-whys.result c.try_clouds.new.whys c.in_ok-pieces.pieces.items c.in_ok-pieces.ensures.tried c.requires.live.width)
+pub returns-in-None-clause-lacks : goal.returns-in-None-clause-lacks
+returns-in-None-clause-lacks g c =
+    too_few g.F.Fleet c.args.name.now c.args.live.now c.args.fleet.now c.read_unmarked.new.fleet (named c.args.failed.now) c.marked_with-whys.result c.read_unmarked.new.whys
+    (failed_first _ (named c.args.failed.now) c.marked_with-whys.result c.requires.narrow c.marked_with-whys.ensures) c.short_list.result
+    (subst (ReadsUnmarked g.F.Fleet c.args.name.now c.args.live.now c.args.fleet.now c.read_unmarked.new.fleet c.marked_with-whys.result c.read_unmarked.new.whys) c.in-None.is c.in_ok-read.ensures.reads)
+    (c.short_list.ensures ∙ ap (bads c.read_unmarked.new.whys 0) c.width-width.ensures)
 
-pub decode-requires-clause-in_width : goal.decode-requires-clause-in_width
-decode-requires-clause-in_width g c = λ κ l.
-    subst (λ (ps : List Piece). All (λ p. p.cloud < c.args.live.now.code.width) ps) (sym c.deref.ensures.value)
-    (pieces_within g.F.Fleet c.args.name.now c.args.live.now c.args.fleet.now c.try_clouds.new.fleet c.failed_whys-whys.result c.try_clouds.new.whys c.in_ok-pieces.pieces.items c.in_ok-pieces.ensures.tried c.requires.live.width)
+pub returns-in-Some-clause-shows : goal.returns-in-Some-clause-shows
+returns-in-Some-clause-shows g c told = part_shows g.F.Fleet _ _ _ _ (named c.args.failed.now) told c.in-Some.part (returns-in-Some-clause-comes g c)
 
-pub decode-requires-clause-long : goal.decode-requires-clause-long
-decode-requires-clause-long g c = λ κ l.
-    subst (λ (ps : List Piece). All (IsLong (chunk_size c.args.live.now.len c.args.live.now.code.width)) ps) (sym c.deref.ensures.value)
-    (pieces_long g.F.Fleet c.args.name.now c.args.live.now c.args.fleet.now c.try_clouds.new.fleet c.failed_whys-whys.result c.try_clouds.new.whys c.in_ok-pieces.pieces.items c.in_ok-pieces.ensures.tried c.requires.live.width)
-
-pub returns-clause-comes : goal.returns-clause-comes
-returns-clause-comes g c =
-    let enough : length c.in_ok-pieces.pieces.items + 2 ≡ g.F.Fleet.clouds c.args.fleet.now =
-    omega (arith, c.if-len-from.false, c.len.ensures, c.from.ensures, c.width-width.ensures, c.in_ok-pieces.ensures.tried.has.few, c.in_ok-pieces.pieces.ok) in
-    comes_from g.F.Fleet c.args.name.now c.args.live.now c.args.fleet.now c.try_clouds.new.fleet c.failed_whys-whys.result c.try_clouds.new.whys c.in_ok-pieces.pieces.items c.in_ok-pieces.ensures.tried c.requires.live.width
-    (named c.args.failed.now) c.in_ok-part.part (marked_first _ (named c.args.failed.now) c.failed_whys-whys.result c.requires.narrow c.failed_whys-whys.ensures) enough c.in_ok-part.ensures.length
-    (λ v bytes len all. c.in_ok-part.ensures.file v bytes len (subst (λ (ps : List Piece). All (IsPieceOf c.args.live.now.code v) ps) (sym c.deref.ensures.value) all))
-
-pub returns-then-len-from-clause-lacks : goal.returns-then-len-from-clause-lacks
-returns-then-len-from-clause-lacks g c =
-    let few : length c.in_ok-pieces.pieces.items + 2 < g.F.Fleet.clouds c.args.fleet.now = omega (arith, c.if-len-from.true, c.len.ensures, c.from.ensures, c.width-width.ensures, c.in_ok-pieces.pieces.ok) in
-    too_few g.F.Fleet c.args.name.now c.args.live.now c.args.fleet.now c.try_clouds.new.fleet c.failed_whys-whys.result c.try_clouds.new.whys c.in_ok-pieces.pieces.items c.in_ok-pieces.ensures.tried c.requires.live.width
-    (named c.args.failed.now) c.short_list.result (marked_first _ (named c.args.failed.now) c.failed_whys-whys.result c.requires.narrow c.failed_whys-whys.ensures) few (c.short_list.ensures ∙ ap (bads c.try_clouds.new.whys 0) c.width-width.ensures)
-
-pub returns-clause-shows : goal.returns-clause-shows
-returns-clause-shows g c told = part_shows g.F.Fleet _ _ _ _ (named c.args.failed.now) told c.in_ok-part.part (returns-clause-comes g c)
-
-pub returns-then-len-from-clause-shows : goal.returns-then-len-from-clause-shows
-returns-then-len-from-clause-shows g c told = lacks_shows g.F.Fleet _ _ _ _ (named c.args.failed.now) told (Short c.short_list.result) (returns-then-len-from-clause-lacks g c)
+pub returns-in-None-clause-shows : goal.returns-in-None-clause-shows
+returns-in-None-clause-shows g c told = lacks_shows g.F.Fleet _ _ _ _ (named c.args.failed.now) told (Short c.short_list.result) (returns-in-None-clause-lacks g c)

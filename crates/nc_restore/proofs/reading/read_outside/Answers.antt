@@ -1,44 +1,19 @@
-use Rattle.std.proofs.Common.{◌≡◌, ◌∙◌, ◌<◌, ◌+◌, List, All, AllPairs, length, sym, ap, subst, arith}
-use Rattle.nc_native.specs.Native.{chunk_size}
-use Rattle.nc_mix.specs.declared.pieces.Piece.{Piece}
-use Rattle.nc_mix.specs.Decoding.{IsBefore, IsLong, IsPieceOf}
+use Rattle.std.proofs.Common.{◌∙◌, ap, subst}
 use Rattle.nc_settle.specs.MetaWrites.{named}
-use Rattle.nc_fetch.proofs.PieceLaws.{pieces_ascend, pieces_long, pieces_within}
-use Rattle.nc_restore.specs.Restoring.{bads_outside}
-use Rattle.nc_restore.proofs.ReadLaws.{comes_outside, too_few_outside, untried_first}
+use Rattle.nc_fetch.specs.Reading.{ReadsUnmarked}
+use Rattle.nc_fetch.specs.Whys.{bads}
+use Rattle.nc_restore.proofs.ReadLaws.{comes_outside, outside_listed, too_few_outside, untried_first}
 use Rattle.nc_restore.proofs.reading.read_outside.Goals as goal
 
-pub decode-requires-clause-count : goal.decode-requires-clause-count
-decode-requires-clause-count g c = λ κ l.
-    let long : length c.deref.result.now ≡ length c.in_ok-pieces.pieces.items = ap length c.deref.ensures.value in
-    omega (arith, long, c.if-len-from.false, c.len.ensures, c.from.ensures, c.width-width.ensures, c.in_ok-pieces.ensures.tried.has.few, c.in_ok-pieces.pieces.ok, c.requires.live.width)
+pub returns-in-Some-clause-comes : goal.returns-in-Some-clause-comes
+returns-in-Some-clause-comes g c =
+    comes_outside g.F.Fleet c.args.name.now c.args.live.now c.args.fleet.now c.read_unmarked.new.fleet (named c.args.on.now) c.untried_whys-whys.result c.read_unmarked.new.whys
+    (untried_first _ (named c.args.on.now) c.untried_whys-whys.result c.requires.narrow c.untried_whys-whys.ensures) c.in-Some.file
+    (subst (ReadsUnmarked g.F.Fleet c.args.name.now c.args.live.now c.args.fleet.now c.read_unmarked.new.fleet c.untried_whys-whys.result c.read_unmarked.new.whys) c.in-Some.is c.in_ok-read.ensures.reads)
 
-pub decode-requires-clause-ascending : goal.decode-requires-clause-ascending
-decode-requires-clause-ascending g c = λ κ l.
-    subst (λ (ps : List Piece). AllPairs IsBefore ps) (sym c.deref.ensures.value)
-    (pieces_ascend g.F.Fleet c.args.name.now c.args.live.now c.args.fleet.now c.try_clouds.new.fleet c.untried_whys-whys.result c.try_clouds.new.whys c.in_ok-pieces.pieces.items c.in_ok-pieces.ensures.tried c.requires.live.width)
-
-pub decode-requires-clause-in_width : goal.decode-requires-clause-in_width
-decode-requires-clause-in_width g c = λ κ l.
-    subst (λ (ps : List Piece). All (λ p. p.cloud < c.args.live.now.code.width) ps) (sym c.deref.ensures.value)
-    (pieces_within g.F.Fleet c.args.name.now c.args.live.now c.args.fleet.now c.try_clouds.new.fleet c.untried_whys-whys.result c.try_clouds.new.whys c.in_ok-pieces.pieces.items c.in_ok-pieces.ensures.tried c.requires.live.width)
-
-pub decode-requires-clause-long : goal.decode-requires-clause-long
-decode-requires-clause-long g c = λ κ l.
-    subst (λ (ps : List Piece). All (IsLong (chunk_size c.args.live.now.len c.args.live.now.code.width)) ps) (sym c.deref.ensures.value)
-    (pieces_long g.F.Fleet c.args.name.now c.args.live.now c.args.fleet.now c.try_clouds.new.fleet c.untried_whys-whys.result c.try_clouds.new.whys c.in_ok-pieces.pieces.items c.in_ok-pieces.ensures.tried c.requires.live.width)
-
-pub returns-clause-comes : goal.returns-clause-comes
-returns-clause-comes g c =
-    let enough : length c.in_ok-pieces.pieces.items + 2 ≡ g.F.Fleet.clouds c.args.fleet.now =
-    omega (arith, c.if-len-from.false, c.len.ensures, c.from.ensures, c.width-width.ensures, c.in_ok-pieces.ensures.tried.has.few, c.in_ok-pieces.pieces.ok) in
-    comes_outside g.F.Fleet c.args.name.now c.args.live.now c.args.fleet.now c.try_clouds.new.fleet c.untried_whys-whys.result c.try_clouds.new.whys c.in_ok-pieces.pieces.items c.in_ok-pieces.ensures.tried c.requires.live.width
-    (named c.args.on.now) c.in_ok-file.file (untried_first _ (named c.args.on.now) c.untried_whys-whys.result c.requires.narrow c.untried_whys-whys.ensures) enough c.in_ok-file.ensures.length
-    (λ v bytes len all. c.in_ok-file.ensures.file v bytes len (subst (λ (ps : List Piece). All (IsPieceOf c.args.live.now.code v) ps) (sym c.deref.ensures.value) all))
-
-pub returns-then-len-from-clause-lacks : goal.returns-then-len-from-clause-lacks
-returns-then-len-from-clause-lacks g c =
-    let few : length c.in_ok-pieces.pieces.items + 2 < g.F.Fleet.clouds c.args.fleet.now = omega (arith, c.if-len-from.true, c.len.ensures, c.from.ensures, c.width-width.ensures, c.in_ok-pieces.pieces.ok) in
-    too_few_outside g.F.Fleet c.args.name.now c.args.live.now c.args.fleet.now c.try_clouds.new.fleet c.untried_whys-whys.result c.try_clouds.new.whys c.in_ok-pieces.pieces.items c.in_ok-pieces.ensures.tried
-    c.requires.live.width (named c.args.on.now) c.short_list.result (untried_first _ (named c.args.on.now) c.untried_whys-whys.result c.requires.narrow c.untried_whys-whys.ensures) few
-    (c.short_list.ensures ∙ ap (bads_outside (named c.args.on.now) c.try_clouds.new.whys) c.width-width.ensures)
+pub returns-in-None-clause-lacks : goal.returns-in-None-clause-lacks
+returns-in-None-clause-lacks g c =
+    too_few_outside g.F.Fleet c.args.name.now c.args.live.now c.args.fleet.now c.read_unmarked.new.fleet (named c.args.on.now) c.untried_whys-whys.result c.read_unmarked.new.whys
+    (untried_first _ (named c.args.on.now) c.untried_whys-whys.result c.requires.narrow c.untried_whys-whys.ensures) c.short_list.result
+    (subst (ReadsUnmarked g.F.Fleet c.args.name.now c.args.live.now c.args.fleet.now c.read_unmarked.new.fleet c.untried_whys-whys.result c.read_unmarked.new.whys) c.in-None.is c.in_ok-read.ensures.reads)
+    (c.short_list.ensures ∙ ap (bads c.outside.result 0) c.width-width.ensures ∙ outside_listed (named c.args.on.now) c.read_unmarked.new.whys c.outside.result _ c.requires.narrow c.outside.ensures)

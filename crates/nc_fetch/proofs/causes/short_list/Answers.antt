@@ -1,7 +1,7 @@
 use Rattle.std.proofs.Common.{◌≡◌, ◌≤◌, ◌-◌, length, ap, ◌∙◌, arith}
 use Rattle.nc_fetch.specs.Whys.{bads}
 use Rattle.nc_fetch.proofs.BatchLaws.{bad_one, bads_few}
-use Rattle.nc_fetch.proofs.parts.short_list.Goals as goal
+use Rattle.nc_fetch.proofs.causes.short_list.Goals as goal
 
 pub push_bad-requires : goal.push_bad-requires
 push_bad-requires c =
