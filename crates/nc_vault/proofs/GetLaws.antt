@@ -118,7 +118,7 @@ module _ {A : Type 0} (F : FleetGhosts A) (s : Setting) (name bytes : List ℕ) 
           λ few. file V v (((shows told).each failing risen).each S D stands few);
     };
     reads = λ told. (whole told).each failing risen;
-    tidy = λ told sure not. record { each = λ names of works among. absurd (none_among names of works among) };
+    tidy = λ told sure not. record { each = λ names of plain works among. absurd (none_among names of works among) };
   }
 
   pub got_none : (f : FetchFault) → Fetches F name old new (Err f) → (F.tells → EachFetchShows F name old new (Err f)) → ReadsNone (F.chunk_gets old) (F.chunk_gets new) f

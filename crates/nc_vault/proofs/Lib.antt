@@ -1,4 +1,5 @@
 pub mod BearingLaws
+mod ChunksStay
 pub mod DrawingLaws
 mod GetCounts
 pub mod GetLaws
@@ -14,8 +15,13 @@ pub mod RecoverPart
 pub mod RemoveLaws
 mod RepairLaws
 pub mod RepairPart
+mod RestoreLaws
+pub mod RestorePart
 pub mod RowLaws
+mod SameAct
+mod SameFile
 mod SameName
+pub mod ScrubLaws
 mod SeenLaws
 pub mod StatLaws
 mod SweepActs

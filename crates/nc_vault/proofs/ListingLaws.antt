@@ -49,7 +49,7 @@ first_true : (a b : Bool) → a ≡ true → (a || b) ≡ true
 first_true true b is = refl
 first_true false b is = absurd cc
 
-second_true : (a b : Bool) → b ≡ true → (a || b) ≡ true
+pub second_true : (a b : Bool) → b ≡ true → (a || b) ≡ true
 second_true true b is = refl
 second_true false b is = is
 
@@ -57,7 +57,7 @@ both_false : (a b : Bool) → a ≡ false → b ≡ false → (a || b) ≡ false
 both_false true b is other = absurd cc
 both_false false b is other = other
 
-rose_true : (before now : ℕ) → Rose before now → rose before now ≡ true
+pub rose_true : (before now : ℕ) → Rose before now → rose before now ≡ true
 rose_true before now is = without (rose before now) (rose_is before now false is)
   where
     without : (b : Bool) → (b || false) ≡ true → b ≡ true
@@ -259,7 +259,7 @@ shows_before F old mid names lens Q X clouds held has shows =
     (subst (λ (G : Contents). ForEachVault (F.clouds mid) G (NamesShow (F.clouds mid) X names lens)) held (shows.each X (subst (λ (n : ℕ). HasAll n Q X) (sym clouds) has)))
 
 -- nothing was written
-stays : (G H : Contents) (f : Fault) (after : Option ℕ) → H ≡ G → StaysBefore G H (reply.Stopped f after)
+pub stays : (G H : Contents) (f : Fault) (after : Option ℕ) → H ≡ G → StaysBefore G H (reply.Stopped f after)
 stays G H fault.NoFile after same = tt
 stays G H (fault.Cloud c) after same = tt
 stays G H (fault.Damaged c r how) after same = tt
@@ -361,7 +361,7 @@ module _ {A : Type 0} (F : FleetGhosts A) (s : Setting) (bytes : List ℕ) (old 
               (record { each = λ c l is. failed.all.each c l (within.each c l is) })
               (listed told) valid sorted long (λ i l. ((shows told).each S D stands).each i l few_damaged);
         };
-        tidy = λ told sure not. record { each = λ names_of of works among. absurd (none_among names_of of works among) };
+        tidy = λ told sure not. record { each = λ names_of of plain works among. absurd (none_among names_of of works among) };
       })
 
 -- the lists, the looks, and then the answer

@@ -1,5 +1,5 @@
 -- From the work on one name to that on all.
-use Rattle.std.proofs.Common.{◌≡◌, ◌<◌, ◌+◌, ◌==◌, ℕ, Bool, true, false, if◌then◌else◌, Option, Some, None, List, [], Contains, IfSome, length, take, slice_get, inl, inr, refl, sym, ap, ◌∙◌, subst, arith}
+use Rattle.std.proofs.Common.{◌≡◌, ◌<◌, ◌+◌, ◌==◌, ◌||◌, ℕ, Bool, true, false, if◌then◌else◌, Option, Some, None, List, [], Contains, IfSome, length, take, slice_get, inl, inr, refl, sym, ap, ◌∙◌, subst, arith}
 use Rattle.std.specs.Str.{bytes_eq}
 use Rattle.std.proofs.lemmas.Bool.Decides.{eqb_tells}
 use Rattle.std.proofs.lemmas.Slice.Eq.{bytes_eq-Decides}
@@ -126,7 +126,7 @@ module _ (n : ℕ) (task : Task) (V : Vault) (names : List (List ℕ)) (done : �
   late_untouched : (other : List ℕ) → (Contains (take (done + 1) names) other → ⊥) → IsUntouched V here other
   late_untouched other out = at.reached.others other (λ among. out (more_in names done name next other among))
 
-  name_untouched : IsUntouched V here name
+  pub name_untouched : IsUntouched V here name
   name_untouched = at.reached.others name new
 
   pub version_is : version_in n here name ≡ version_in n V name
@@ -209,6 +209,10 @@ itself i =
       | inr differ ↦ absurd (differ.1 refl)
     ]
 
+or_second : (a b : Bool) → b ≡ true → (a || b) ≡ true
+or_second true b is = refl
+or_second false b is = is
+
 -- what a name that is done with is on the clouds that the act fills
 pub record FillsName (n : ℕ) (a : Act) (W : Vault) (name : List ℕ) : Type 0 where
   pub version : Version
@@ -217,13 +221,13 @@ pub record FillsName (n : ℕ) (a : Act) (W : Vault) (name : List ℕ) : Type 0 
   pub filled : (c : ℕ) → c < n → fills a c ≡ true → RightOn n W.contents name version c
 
 -- so is each name, where the act is done with all that stood at V
-healed_name : (n i : ℕ) (V W : Vault) (names : List (List ℕ)) → i < n → AreNames n V.contents names → IsVault n V → ((name : List ℕ) → Contains names name → FillsName n (act.Repair i) W name)
+healed_name : (n i : ℕ) (a : Act) (V W : Vault) (names : List (List ℕ)) → i < n → fills a i ≡ true → AreNames n V.contents names → IsVault n V → ((name : List ℕ) → Contains names name → FillsName n a W name)
     → ((name : List ℕ) → (Contains names name → ⊥) → IsUntouched V W name) → (name : List ℕ) → IsName name → IsHealed n W.contents i name (W.entries name)
-healed_name n i V W names within listed from done others name is =
+healed_name n i a V W names within on listed from done others name is =
     elim (among_or_not names name) [
       | inl among ↦
-          let f : FillsName n (act.Repair i) W name = done name among in
-          subst (IsHealed n W.contents i name) (sym f.rests) (f.held i within, f.filled i within (itself i))
+          let f : FillsName n a W name = done name among in
+          subst (IsHealed n W.contents i name) (sym f.rests) (f.held i within, f.filled i within on)
       | inr out ↦
           let never : W.entries name ≡ Rest Never = (others name out).entry ∙ unlisted_rests n V.contents V.entries V.damaged names name from listed is out in
           subst (IsHealed n W.contents i name) (sym never) (tt, never_right n W.contents name i)
@@ -235,7 +239,17 @@ still_stands : (n : ℕ) (a : Act) (V W : Vault) (names : List (List ℕ)) → F
     → Stands n W.contents W.entries (still_damaged a V.damaged)
 still_stands n (act.Repair i) V W names fits works from stands same done others =
     subst (λ (D : Clouds). Stands n W.contents W.entries (without_cloud D i)) same
-    (healed_stands n i W.contents W.entries W.damaged stands (healed_name n i V W names fits works from done others))
+    (healed_stands n i W.contents W.entries W.damaged stands (healed_name n i (act.Repair i) V W names fits (itself i) works from done others))
+still_stands n (act.Restore first None) V W names fits works from stands same done others =
+    subst (λ (D : Clouds). Stands n W.contents W.entries (without_cloud D first)) same
+    (healed_stands n first W.contents W.entries W.damaged stands (healed_name n first (act.Restore first None) V W names fits (itself first) works from done others))
+still_stands n (act.Restore first (Some second)) V W names fits works from stands same done others =
+    let a : Act = act.Restore first (Some second) in
+    subst (λ (D : Clouds). Stands n W.contents W.entries (without_cloud (without_cloud D first) second)) same
+    (healed_stands n second W.contents W.entries (without_cloud W.damaged first)
+    (healed_stands n first W.contents W.entries W.damaged stands
+    (healed_name n first a V W names fits.0 (ap (λ (b : Bool). b || (first == second)) (itself first)) works from done others))
+    (healed_name n second a V W names fits.1 (or_second (second == first) (second == second) (itself second)) works from done others))
 still_stands n other V W names fits works from stands same done others = subst (Stands n W.contents W.entries) same stands
 
 -- ---- all names are done

@@ -36,7 +36,7 @@ use Rattle.nc_vault.specs.declared.fault.Fault.TheVariants as fault
 use Rattle.nc_vault.specs.declared.reply.Reply.{Reply}
 use Rattle.nc_vault.specs.declared.reply.Reply.TheVariants as reply
 use Rattle.nc_vault.specs.Acting.{Acted, Changes, IfDone, IsReplyTo, IsTidied, LeavesTidy, StaysBefore}
-use Rattle.nc_vault.specs.Counting.{CostsBy, CountsSay, NamesCloud, NamesNone, ReadsFor, TookBy, bears_failures, failing_in, may_read_chunks, rose}
+use Rattle.nc_vault.specs.Counting.{CostsBy, CountsFor, CountsSay, CountsTell, NamesCloud, NamesNone, ReadsFor, TookBy, bears_failures, failing_in, may_read_chunks, restores, rose}
 use Rattle.nc_vault.specs.Faults.{fault_of_settle, fault_of_write}
 use Rattle.nc_vault.specs.Makings.{Brings, Makes}
 use Rattle.nc_vault.specs.Replies.{RepliesWith, StopsFor}
@@ -57,6 +57,7 @@ pub record WritesOne (a : Act) (name : List ℕ) : Type 0 where
   pub stopped : (f : Fault) → IsReplyTo a (reply.Stopped f None)
   pub changes : (F G : Contents) → ChangesOnlyName name F G → Changes a F G
   pub bears : bears_failures a ≡ false
+  pub restores_none : restores a ≡ false
   pub unread : (answer : Reply) → may_read_chunks a answer ≡ false
   pub took : (n : ℕ) (answer : Reply) (before now : ℕ → ℕ) → TookBy n a answer before now
   pub fits : (n : ℕ) → FitsWidth n a
@@ -70,6 +71,9 @@ unseen F a old new answer writes = subst (λ (b : Bool). SeesFor b F old new a a
 
 unread_by : {A : Type 0} (F : FleetGhosts A) (a : Act) (old new : A) (answer : Reply) (n : ℕ) (G : Contents) → only_reads a ≡ false → ForEachVault n G (ReadsFor (only_reads a) F old new a answer)
 unread_by F a old new answer n G writes = record { each = λ S D stands. subst (λ (b : Bool). ReadsFor b F old new a answer (record { contents = G; entries = S; damaged = D })) (sym writes) tt }
+
+said : {A : Type 0} (F : FleetGhosts A) (a : Act) (old new : A) (answer : Reply) → restores a ≡ false → CountsTell F a old new answer → CountsSay F a old new answer
+said F a old new answer none = subst (λ (b : Bool). CountsTell F a old new answer → CountsFor b F a old new answer) (sym none) (λ counts. counts)
 
 -- ---- states
 
@@ -122,7 +126,7 @@ unnamed F a old new true not clean = absurd cc
 unnamed F a old new false not clean = λ exact c within. clean exact c
 
 settle_counts : {A : Type 0} (F : FleetGhosts A) (a : Act) (old new : A) (f : SettleFault) → bears_failures a ≡ false → HasSettleCause F.counts_exactly (F.faults old) (F.faults new) f
-    → CountsSay F a old new (reply.Stopped (fault_of_settle f) None)
+    → CountsTell F a old new (reply.Stopped (fault_of_settle f) None)
 settle_counts F a old new (settle.Cloud c) bears is = named F a old new c (bears_failures a) bears is.0 is.1
 settle_counts F a old new (settle.Misplaced c x y) bears is = unnamed F a old new (bears_failures a) bears is
 settle_counts F a old new (settle.Conflict g x y) bears is = unnamed F a old new (bears_failures a) bears is
@@ -141,7 +145,7 @@ settle_before G H (settle.Conflict g x y) kept = λ first. kept tt
 settle_before G H settle.Memory kept = tt
 
 -- on contents that stand nothing is misplaced or disputed
-settle_stops : {A : Type 0} (F : FleetGhosts A) (n : ℕ) (task : Task) (name : List ℕ) (old new : A) (S : Entries) (D : Clouds) (f : SettleFault) → IsName name → Stands n (F.held old) S D
+pub settle_stops : {A : Type 0} (F : FleetGhosts A) (n : ℕ) (task : Task) (name : List ℕ) (old new : A) (S : Entries) (D : Clouds) (f : SettleFault) → IsName name → Stands n (F.held old) S D
     → SettleRefuses n name (F.held old) f → HasSettleCause F.counts_exactly (F.faults old) (F.faults new) f
     → StopsFor n task (record { contents = F.held old; entries = S; damaged = D }) (failing_in F task.act old new) (fault_of_settle f)
 settle_stops F n task name old new S D (settle.Cloud c) is stands refuses cause = rose_is (F.faults old c) (F.faults new c) _ cause.0
@@ -169,7 +173,7 @@ write_before G H write.Memory = tt
 -- its cause is that of the act, where no count changed before
 write_counts : {A : Type 0} (F : FleetGhosts A) (a : Act) (old mid new : A) (f : WriteFault) → bears_failures a ≡ false → Grows (F.faults old) (F.faults mid)
     → (F.counts_exactly → (c : ℕ) → F.faults mid c ≡ F.faults old c) → f ≢ write.Worn → HasWriteCause F.counts_exactly (F.faults mid) (F.faults new) f
-    → CountsSay F a old new (reply.Stopped (fault_of_write f) None)
+    → CountsTell F a old new (reply.Stopped (fault_of_write f) None)
 write_counts F a old mid new (write.Cloud c) bears grows clean fine is =
     named F a old new c (bears_failures a) bears (rose_more (F.faults old c) (F.faults mid c) (F.faults new c) (grows c) is.0) (λ exact d low. is.1 exact d low ∙ clean exact d)
 write_counts F a old mid new write.Worn bears grows clean fine is = absurd (fine refl)
@@ -206,7 +210,7 @@ module _ {A : Type 0} (F : FleetGhosts A) (task : Task) (name : List ℕ) (one :
     pub proceeds : Proceeds F old new
 
   -- it was stopped
-  stopped : {new : A} (u : Until new) (f : Fault) → CountsSay F task.act old new (reply.Stopped f None) → StaysBefore (F.held old) (F.held new) (reply.Stopped f None)
+  stopped : {new : A} (u : Until new) (f : Fault) → CountsTell F task.act old new (reply.Stopped f None) → StaysBefore (F.held old) (F.held new) (reply.Stopped f None)
       → (F.tells → WriteRefuses n task.setting name (F.held old) f)
       → (F.tells → (S : Entries) (D : Clouds) → Stands n (F.held old) S D → StopsFor n task (vault_of (F.held old) S D) (failing_in F task.act old new) f)
       → Acted F task old new (reply.Stopped f None)
@@ -215,7 +219,7 @@ module _ {A : Type 0} (F : FleetGhosts A) (task : Task) (name : List ℕ) (one :
     grows = u.proceeds.grows;
     time = u.proceeds.time;
     kind = one.stopped f;
-    counts = counts;
+    counts = said F task.act old new (reply.Stopped f None) one.restores_none counts;
     costs = costs_by (may_read_chunks task.act (reply.Stopped f None)) (F.chunk_gets old) (F.chunk_gets new) (one.unread (reply.Stopped f None)) u.proceeds.gets;
     took = one.took n (reply.Stopped f None) (F.chunk_gets old) (F.chunk_gets new);
     before = before;
@@ -251,7 +255,7 @@ module _ {A : Type 0} (F : FleetGhosts A) (task : Task) (name : List ℕ) (one :
   -- settled on this metadata
   module _ {mid : A} (top : Option Meta) (s : IsSettled F name old mid top) where
     -- nothing is written
-    pub unwritten : (f : Fault) → CountsSay F task.act old mid (reply.Stopped f None) → StaysBefore (F.held old) (F.held mid) (reply.Stopped f None)
+    pub unwritten : (f : Fault) → CountsTell F task.act old mid (reply.Stopped f None) → StaysBefore (F.held old) (F.held mid) (reply.Stopped f None)
         → (F.tells → WriteRefuses n task.setting name (F.held old) f)
         → (F.tells → (S : Entries) (D : Clouds) → Stands n (F.held old) S D → meta_of (version_in n (vault_of (F.held old) S D) name) ≡ top
         → StopsFor n task (vault_of (F.held old) S D) (failing_in F task.act old mid) f)
@@ -353,13 +357,13 @@ module _ {A : Type 0} (F : FleetGhosts A) (task : Task) (name : List ℕ) (one :
           pub leaves_tidy : 4 ≤ n → n ≤ 10 → ((c : ℕ) → c < n → HoldsIfAny n (F.held new) name c next) → (NoneSlipped F end new → IsTidy n (F.held new) name next)
               → NoneSlipped F old new → LeavesTidy n task.act (F.held old) (F.held new)
           leaves_tidy wide narrow held tidy none = record {
-            each = λ names other works among.
+            each = λ names other plain works among.
                 let here : other ≡ name = in_one name other (subst (λ (ns : List (List ℕ)). Contains ns other) (one.only n (F.held old) names works) among) in
                 let left : IsTidy n (F.held new) name next = tidy (slips_before none) in
                 subst (IsTidied n (F.held new)) (sym here) (record { top = next; settled = settled_of_tidy n (F.held new) name next wide narrow is held left; tidy = left });
           }
 
-          pub finished : (answer : Reply) → IsReplyTo task.act answer → (NamesNone (bears_failures task.act) F task.act old new → CountsSay F task.act old new answer)
+          pub finished : (answer : Reply) → IsReplyTo task.act answer → (NamesNone (bears_failures task.act) F task.act old new → CountsTell F task.act old new answer)
               → StaysBefore (F.held old) (F.held new) answer → (F.tells → SaysBy n task (F.held old) (F.held new) task.act answer)
               → ((V : Vault) → StandsDone n task V (F.held new) → StandsAtEnd n task V (F.held new) answer)
               → ((V : Vault) → meta_of (version_in n V name) ≡ top → RepliesWith n task V (failing_in F task.act old new) answer)
@@ -370,7 +374,7 @@ module _ {A : Type 0} (F : FleetGhosts A) (task : Task) (name : List ℕ) (one :
             grows = until_tidied.proceeds.grows;
             time = until_tidied.proceeds.time;
             kind = kind;
-            counts = counts (unnamed F task.act old new (bears_failures task.act) one.bears all_clean);
+            counts = said F task.act old new answer one.restores_none (counts (unnamed F task.act old new (bears_failures task.act) one.bears all_clean));
             costs = costs_by (may_read_chunks task.act answer) (F.chunk_gets old) (F.chunk_gets new) (one.unread answer) until_tidied.proceeds.gets;
             took = one.took n answer (F.chunk_gets old) (F.chunk_gets new);
             before = before;

@@ -39,7 +39,7 @@ module _ {A : Type 0} (F : FleetGhosts A) (s : Setting) (bytes : List ℕ) (name
     alone = u.settles.alone;
     begins = settle_part F (recovery s bytes) name u.settles;
     refuses = λ told. settle_refuses (F.clouds old) s name (F.held old) f (u.refuses told);
-    stops = λ told. record { each = λ S D stands. settle_stops (F.clouds old) (recovery s bytes) name (vault_of (F.held old) S D) f is stands (u.refuses told) };
+    stops = λ told. record { each = λ S D stands. settle_stops F (recovery s bytes) name mid (vault_of (F.held old) S D) f is stands (u.refuses told) };
   }
 
   -- it is, and then tidied
@@ -80,6 +80,7 @@ module _ {A : Type 0} (F : FleetGhosts A) (s : Setting) (bytes : List ℕ) (name
         clouds = proceeds.clouds;
         grows = proceeds.grows;
         time = proceeds.time;
+        few = omega arith;
         one = omega arith;
         took = λ c l. unread_count (F.chunk_gets old c) (F.chunk_gets new c) (proceeds.gets c);
         clean = λ exact c. ap (λ (g : ℕ → ℕ). g c) tidies.faults ∙ settles.clean exact c;
@@ -88,5 +89,5 @@ module _ {A : Type 0} (F : FleetGhosts A) (s : Setting) (bytes : List ℕ) (name
         does = recover_does F (recovery s bytes) name is top settles tidies refl;
         counts = λ told. record { each = λ S D stands. refl };
         leaves = λ told. record { top = top; agreed = settles.agreed told; settled = settled_now told };
-        tidy = λ told sure none. record { top = top; settled = settled_now told; tidy = tidy told sure (slipped_later none) };
+        tidy = λ told sure plain none. record { top = top; settled = settled_now told; tidy = tidy told sure (slipped_later none) };
       }

@@ -49,18 +49,19 @@ settle_counts exact before now (settle.Conflict g a b) cause = cause
 settle_counts exact before now settle.Memory cause = tt
 
 -- on contents that stand nothing is misplaced or disputed
-pub settle_stops : (n : ℕ) (task : Task) (name : List ℕ) (V : Vault) (f : SettleFault) → IsName name → IsVault n V → SettleRefuses n name V.contents f → PartStops n task name (fault_of_settle f) V
-settle_stops n task name V (settle.Cloud c) is stands refuses = tt
-settle_stops n task name V (settle.Misplaced c a b) is stands refuses =
+pub settle_stops : {A : Type 0} (F : FleetGhosts A) (task : Task) (name : List ℕ) {old : A} (new : A) (V : Vault) (f : SettleFault) → IsName name → IsVault (F.clouds old) V
+    → SettleRefuses (F.clouds old) name V.contents f → PartStops F task name old new (fault_of_settle f) V
+settle_stops F task name new V (settle.Cloud c) is stands refuses = tt
+settle_stops F task name {old} new V (settle.Misplaced c a b) is stands refuses =
     let at = refuses.here in
     let other = at.is_of_elsewhere in
-    let here = none_misplaced n V.contents V.entries V.damaged name c refuses.slot a b at.bytes other.key other.payload is stands refuses.in_width at.stands other.is_sealed in
+    let here = none_misplaced (F.clouds old) V.contents V.entries V.damaged name c refuses.slot a b at.bytes other.key other.payload is stands refuses.in_width at.stands other.is_sealed in
     elim other.elsewhere [
       | inl cloud ↦ cloud here.0
       | inr width ↦ width here.1
     ]
-settle_stops n task name V (settle.Conflict g a b) is stands refuses = none_disputed n V.contents V.entries V.damaged name g a b is stands refuses.1
-settle_stops n task name V settle.Memory is stands refuses = tt
+settle_stops F task name {old} new V (settle.Conflict g a b) is stands refuses = none_disputed (F.clouds old) V.contents V.entries V.damaged name g a b is stands refuses.1
+settle_stops F task name new V settle.Memory is stands refuses = tt
 
 -- ---- settled, and then tidied
 

@@ -49,6 +49,7 @@ module _ (s : Setting) (name v : List ℕ) where
     stopped = λ f. refl;
     changes = λ F G only. only;
     bears = refl;
+    restores_none = refl;
     unread = λ answer. refl;
     took = λ n answer before now. tt;
     fits = λ n. tt;

@@ -1,7 +1,6 @@
 -- What the repair of a cloud makes of a version, and which clouds stop it.
-use Rattle.std.proofs.Common.{◌≡◌, ◌<◌, ℕ, true, false, Option, Some, List, length, slice_index, inl, inr, refl, sym, ap, ◌∙◌, subst}
+use Rattle.std.proofs.Common.{◌≡◌, ◌<◌, if◌then◌else◌, ℕ, false, Option, Some, List, inl, inr, refl, sym, ap, ◌∙◌, subst}
 use Rattle.std.proofs.lemmas.Bool.Decides.{eqb_tells}
-use Rattle.sha2.specs.Sha256.{sha256}
 use Rattle.nc_name.specs.declared.key.Key.{Key}
 use Rattle.nc_name.specs.declared.key.Key.TheVariants as key
 use Rattle.nc_code.specs.Parts.{IsPlan, PlanParts}
@@ -13,16 +12,11 @@ use Rattle.nc_search.specs.Searches.{IsMend}
 use Rattle.nc_cloud.specs.Contents.{Contents}
 use Rattle.nc_state.specs.Clouds.{Clouds}
 use Rattle.nc_state.specs.Holding.{IsLiveTop}
-use Rattle.nc_state.specs.Right.{HasChunkAt, IsRight, PlacesStand, RightOn}
+use Rattle.nc_state.specs.Right.{HasChunkAt, PlacesStand, RightOn}
 use Rattle.nc_state.specs.Versions.{IsValidFor, Version, is_stored, meta_of}
 use Rattle.nc_state.specs.Versions.Version.{Never, Removed, Stored}
-use Rattle.nc_state.proofs.ChunkLaws.{right_is_marked, wrong_is_damaged}
-use Rattle.nc_download.specs.declared.judging.Wanted.{Wanted}
 use Rattle.nc_download.specs.declared.short.How.{How}
-use Rattle.nc_download.specs.declared.short.How.TheVariants.{Missing, Broken, Marked}
-use Rattle.nc_download.specs.Chunks.{wanted_of, ChunkIs, HoldsPayload}
-use Rattle.nc_download.specs.Clouds.{chunk_of, held_at, IsBadRow}
-use Rattle.nc_download.proofs.ChunkLaws.{same_payload}
+use Rattle.nc_download.proofs.ChunkLaws.{bad_row_is_damaged}
 use Rattle.nc_repair.specs.Mending.{IsRepaired, mended_meta}
 use Rattle.nc_repair.specs.Repairing.{IsLeastDamaged}
 use Rattle.nc_words.specs.declared.act.Act.TheVariants as act
@@ -30,7 +24,6 @@ use Rattle.nc_words.specs.declared.setting.Setting.{Setting}
 use Rattle.nc_words.specs.Acts.{Task}
 use Rattle.nc_vault.specs.Drawing.{IsRepairDrawn}
 use Rattle.nc_vault.specs.Makings.{BringsBy, IsRepair, MakesBy, next_key, stored_plan}
-use Rattle.nc_vault.specs.Parts.{files_in}
 use Rattle.nc_vault.specs.Replies.{IsAnotherDamaged}
 
 -- ---- a name without a file
@@ -56,15 +49,15 @@ no_chunks name (Stored m v) c (key.Chunk other slot row) none has = absurd cc
 pub right_unstored : (n : ℕ) (G : Contents) (name : List ℕ) (x : Version) (c : ℕ) → is_stored x ≡ false → RightOn n G name x c
 right_unstored n G name x c none place has = absurd (no_chunks name x c place none has)
 
-pub files_unstored : (i : ℕ) (x : Version) → is_stored x ≡ false → 0 ≡ files_in (act.Repair i) x
+pub files_unstored : (i : ℕ) (x : Version) → is_stored x ≡ false → ◌≡◌ {A = ℕ} 0 (if is_stored x then 1 else 0)
 files_unstored i Never none = refl
 files_unstored i (Removed generation) none = refl
 files_unstored i (Stored m v) none = absurd cc
 
 -- ---- a name with one
 
-pub files_stored : (i : ℕ) (x : Version) (m : Live) (v : List ℕ) → x ≡ Stored m v → 1 ≡ files_in (act.Repair i) x
-files_stored i x m v is = subst (λ (y : Version). 1 ≡ files_in (act.Repair i) y) (sym is) refl
+pub files_stored : (i : ℕ) (x : Version) (m : Live) (v : List ℕ) → x ≡ Stored m v → ◌≡◌ {A = ℕ} 1 (if is_stored x then 1 else 0)
+files_stored i x m v is = subst (λ (y : Version). ◌≡◌ {A = ℕ} 1 (if is_stored y then 1 else 0)) (sym is) refl
 
 pub brings_stored : (n : ℕ) (task : Task) (i : ℕ) (name : List ℕ) (x z : Version) (m : Live) (v : List ℕ) → x ≡ Stored m v → MakesBy n task (act.Repair i) name x z → BringsBy n task (act.Repair i) name x z
 brings_stored n task i name x z m v is = subst (λ (y : Version). MakesBy n task (act.Repair i) name y z → BringsBy n task (act.Repair i) name y z) (sym is) (λ made. made)
@@ -93,28 +86,12 @@ mended_version n i good x y m v is made =
 
 -- ---- a chunk that isn't good
 
--- a chunk that has the length and the digest that are wanted isn't bad
-not_bad : (w : Wanted) (held : Option (List ℕ)) (right : List ℕ) → HoldsPayload w held right → length right ≡ w.size → sha256 right ≡ w.mark → (how : How) → ChunkIs w held how → ⊥
-not_bad w held right holds long marked Missing is = absurd (subst (λ h. HoldsPayload w h right) is holds)
-not_bad w held right holds long marked Broken is = is.no_payload right holds long
-not_bad w held right holds long marked Marked is = is.other (ap sha256 (same_payload w held _ _ is.holds holds) ∙ marked)
-
--- stands on a damaged cloud
 module _ (n : ℕ) (name : List ℕ) (m : Live) (v : List ℕ) (F : Contents) (D : Clouds) (valid : IsValidFor n m v) (places : PlacesStand n F D name (Stored m v)) where
-  right_not_bad : (c r : ℕ) (how : How) → c < n → r < 2 → IsBadRow n name m F c r how → IsRight n F (Stored m v) c (wanted_of n name m r c).key → ⊥
-  right_not_bad c r how l pair bad right =
-      let marked = right_is_marked n name m v c (slice_index m.slots c) r valid l pair in
-      not_bad (wanted_of n name m r c) (held_at n name m F c r) (chunk_of n m v r c)
-      (subst (λ (h : Option (List ℕ)). HoldsPayload (wanted_of n name m r c) h (chunk_of n m v r c)) (sym right.stands) right.is_chunk) marked.0 marked.1 how bad
-
-  row_is_damaged : (c r : ℕ) (how : How) → c < n → r < 2 → IsBadRow n name m F c r how → D c ≡ true
-  row_is_damaged c r how l pair bad = wrong_is_damaged n F D name (Stored m v) c (wanted_of n name m r c).key places l (refl, refl, pair) (right_not_bad c r how l pair bad)
-
-  -- so one that a repair finds stands on another damaged cloud
+  -- one that a repair finds stands on another damaged cloud
   pub another_damaged : (i : ℕ) (plan : PlanParts) → IsPlan plan → (c r : ℕ) (how : How) → IsLeastDamaged n name m plan i F c r how → IsAnotherDamaged n (act.Repair i) D c
   another_damaged i plan kept c r how least = record {
     in_width = least.in_width;
-    damaged = row_is_damaged c r how least.in_width (subst (λ (k : ℕ). k < 2) (sym least.is_row) (kept.choices c)) least.here;
+    damaged = bad_row_is_damaged n name m v F D valid places c r how least.in_width (subst (λ (k : ℕ). k < 2) (sym least.is_row) (kept.choices c)) least.here;
     other =
         elim (eqb_tells c i) [
           | inl same ↦ absurd (least.other same.1)

@@ -78,7 +78,7 @@ last_generation n m fits last = let high = fits.generation.1 in omega (arith, la
 -- ---- states
 
 module _ {A : Type 0} (F : FleetGhosts A) where
-  advances_of : {old new : A} → Proceeds F old new → Advances F old new
+  pub advances_of : {old new : A} → Proceeds F old new → Advances F old new
   advances_of p = record { clouds = p.clouds; grows = p.grows; time = p.time }
 
   -- by the clauses of a call that deletes and lists nothing
@@ -89,7 +89,7 @@ module _ {A : Type 0} (F : FleetGhosts A) where
     time = time;
   }
 
-  advances_then : {old mid new : A} → Advances F old mid → Advances F mid new → Advances F old new
+  pub advances_then : {old mid new : A} → Advances F old mid → Advances F mid new → Advances F old new
   advances_then {old} {mid} {new} a b = record {
     clouds = b.clouds ∙ a.clouds;
     grows = record {
@@ -120,7 +120,7 @@ module _ {A : Type 0} (F : FleetGhosts A) (s : Setting) (i : ℕ) (bytes name : 
   -- it was stopped
   stopped_by : {old new : A} (u : Until old new) (cause : Fault) → (IsSeenCause cause → F.held new ≡ F.held old) → PartCounts F.counts_exactly (F.faults old) (F.faults new) cause
       → (F.tells → RepairRefuses (F.clouds old) s i name (F.held old) (F.held new) cause)
-      → (F.tells → (S : Entries) (D : Clouds) → Stands (F.clouds old) (F.held old) S D → PartStops (F.clouds old) task name cause (vault_of (F.held old) S D))
+      → (F.tells → (S : Entries) (D : Clouds) → Stands (F.clouds old) (F.held old) S D → PartStops F task name old new cause (vault_of (F.held old) S D))
       → PartStopped F task name cause old new
   stopped_by u cause kept counts refuses stops = record {
     clouds = u.advances.clouds;
@@ -143,7 +143,7 @@ module _ {A : Type 0} (F : FleetGhosts A) (s : Setting) (i : ℕ) (bytes name : 
   repair_unsettled {old} {new} f u =
       stopped_by (until_settled u.settles) (fault_of_settle f) (λ seen. u.kept (seen_fault f seen)) (settle_counts F.counts_exactly (F.faults old) (F.faults new) f u.counts)
       (λ told. settle_refuses (F.clouds old) s i name (F.held old) (F.held new) f (u.refuses told))
-      (λ told S D stands. settle_stops (F.clouds old) task name (vault_of (F.held old) S D) f is stands (u.refuses told))
+      (λ told S D stands. settle_stops F task name new (vault_of (F.held old) S D) f is stands (u.refuses told))
 
   -- ---- it has no file
 
@@ -192,6 +192,7 @@ module _ {A : Type 0} (F : FleetGhosts A) (s : Setting) (i : ℕ) (bytes name : 
         clouds = until_passed.advances.clouds;
         grows = until_passed.advances.grows;
         time = until_passed.advances.time;
+        few = omega arith;
         one = omega arith;
         took = λ c l. (recover_proceeds F task name is top came tidies_here).gets c ∙ sym (ap (got_count (F.chunk_gets old c)) (no_more (c == i)) ∙ got_nothing (F.chunk_gets old c));
         clean = λ exact c. ap (λ (f : ℕ → ℕ). f c) tidies_here.faults ∙ came.clean exact c;
@@ -200,7 +201,7 @@ module _ {A : Type 0} (F : FleetGhosts A) (s : Setting) (i : ℕ) (bytes name : 
         does = passed_does;
         counts = λ told. record { each = λ S D stands. files_unstored i (version_in width (vault_of (F.held old) S D) name) (without told S D stands) };
         leaves = λ told. passes (record { top = top; agreed = came.agreed told; not_live = none; settled = settled_still told });
-        tidy = λ told sure slipped. record {
+        tidy = λ told sure plain slipped. record {
           top = top;
           settled = settled_still told;
           tidy = subst (λ (h : ℕ). IsTidy h (F.held new) name top) k_is (tidy told sure (slips_after F (advances_of F came.settles.proceeds) slipped));
@@ -386,6 +387,7 @@ module _ {A : Type 0} (F : FleetGhosts A) (s : Setting) (i : ℕ) (bytes name : 
           clouds = until_tidied.advances.clouds;
           grows = until_tidied.advances.grows;
           time = until_tidied.advances.time;
+          few = omega arith;
           one = omega arith;
           took = λ c l. t.proceeds.gets c ∙ w.gets c l ∙ ap (λ (b : ℕ). got_count b (fetched_of i c)) (came.settles.proceeds.gets c);
           clean = λ exact c. ap (λ (f : ℕ → ℕ). f c) t.faults ∙ w.clean exact c ∙ came.clean exact c;
@@ -400,5 +402,5 @@ module _ {A : Type 0} (F : FleetGhosts A) (s : Setting) (i : ℕ) (bytes name : 
             one = w.made.one;
             held = held_still told;
           });
-          tidy = tidied;
+          tidy = λ told sure plain. tidied told sure;
         }

@@ -1,66 +1,69 @@
 -- What clouds hold of a name whose objects are the same.
-use Rattle.std.proofs.Common.{◌<◌, ℕ, Option, None, Some, List, IfSome, refl, sym, ◌∙◌, arith}
+use Rattle.std.proofs.Common.{◌≡◌, ℕ, Option, None, Some, List, IfSome, refl, sym, ◌∙◌}
+use Rattle.nc_name.specs.declared.key.Key.{Key}
 use Rattle.nc_name.specs.declared.key.Key.TheVariants as key
+use Rattle.nc_name.specs.Keys.{name_of}
 use Rattle.nc_meta.specs.declared.meta.Meta.{Meta}
 use Rattle.nc_meta.specs.declared.meta.Meta.TheVariants as meta
 use Rattle.nc_cloud.specs.Contents.{Contents}
-use Rattle.nc_state.specs.ChunkLaws.{SameAt}
 use Rattle.nc_state.specs.Holding.{Holds, IsDisputed, IsSettledOn, IsTop, IsTopOrNone, Undisputed, meta_key}
 use Rattle.nc_state.specs.Tidy.{IsTidy}
 use Rattle.nc_repair.specs.Mending.{mended_by}
 use Rattle.nc_settle.specs.Elsewhere.{IsMisplacedAt, LeastMisplaced, NothingMisplaced}
-use Rattle.nc_words.specs.declared.act.Act.{Act}
-use Rattle.nc_words.specs.declared.act.Act.TheVariants as act
 use Rattle.nc_words.specs.declared.setting.Setting.{Setting}
 use Rattle.nc_vault.specs.declared.fault.Fault.{Fault}
 use Rattle.nc_vault.specs.declared.fault.Fault.TheVariants as fault
 use Rattle.nc_vault.specs.Acting.{IsTidied}
-use Rattle.nc_vault.specs.Saying.{DrawsRepair, IsAgreedTop, IsSettledFrom, LeavesName, NameRefuses, RepairRefuses, RepairsName, WriteRefuses}
+use Rattle.nc_vault.specs.Saying.{DrawsRepair, IsAgreedTop, IsSettledFrom, RepairRefuses, RepairsName, WriteRefuses}
 use Rattle.nc_vault.specs.Saying.RepairsName.{mends, passes}
 
-module _ (n : ℕ) (F G : Contents) (name : List ℕ) (same : SameAt n F G name) where
-  holds_there : (c : ℕ) (m : Meta) → c < n → Holds n F name c m → Holds n G name c m
-  holds_there c m l h = record { is_meta = h.is_meta; stands = same c (meta_key name m) l refl ∙ h.stands }
+-- all objects of the name are as they were, on whichever cloud
+abbrev pub SameObjects : Contents → Contents → List ℕ → Type 0
+SameObjects F G name = (c : ℕ) (place : Key) → name_of place ≡ name → G c place ≡ F c place
 
-  holds_back : (c : ℕ) (m : Meta) → c < n → Holds n G name c m → Holds n F name c m
-  holds_back c m l h = record { is_meta = h.is_meta; stands = sym (same c (meta_key name m) l refl) ∙ h.stands }
+module _ (n : ℕ) (F G : Contents) (name : List ℕ) (same : SameObjects F G name) where
+  holds_there : (c : ℕ) (m : Meta) → Holds n F name c m → Holds n G name c m
+  holds_there c m h = record { is_meta = h.is_meta; stands = same c (meta_key name m) refl ∙ h.stands }
 
-  misplaced_there : (c slot a b : ℕ) → c < n → IsMisplacedAt n name F c slot a b → IsMisplacedAt n name G c slot a b
-  misplaced_there c slot a b l at = record { bytes = at.bytes; stands = same c (key.Meta name slot) l refl ∙ at.stands; short = at.short; is_of_elsewhere = at.is_of_elsewhere }
+  holds_back : (c : ℕ) (m : Meta) → Holds n G name c m → Holds n F name c m
+  holds_back c m h = record { is_meta = h.is_meta; stands = sym (same c (meta_key name m) refl) ∙ h.stands }
 
-  misplaced_back : (c slot a b : ℕ) → c < n → IsMisplacedAt n name G c slot a b → IsMisplacedAt n name F c slot a b
-  misplaced_back c slot a b l at = record { bytes = at.bytes; stands = sym (same c (key.Meta name slot) l refl) ∙ at.stands; short = at.short; is_of_elsewhere = at.is_of_elsewhere }
+  misplaced_there : (c slot a b : ℕ) → IsMisplacedAt n name F c slot a b → IsMisplacedAt n name G c slot a b
+  misplaced_there c slot a b at = record { bytes = at.bytes; stands = same c (key.Meta name slot) refl ∙ at.stands; short = at.short; is_of_elsewhere = at.is_of_elsewhere }
+
+  misplaced_back : (c slot a b : ℕ) → IsMisplacedAt n name G c slot a b → IsMisplacedAt n name F c slot a b
+  misplaced_back c slot a b at = record { bytes = at.bytes; stands = sym (same c (key.Meta name slot) refl) ∙ at.stands; short = at.short; is_of_elsewhere = at.is_of_elsewhere }
 
   pub nothing_misplaced_there : NothingMisplaced n name F → NothingMisplaced n name G
-  nothing_misplaced_there is = record { none = λ c slot a b l pair at. is.none c slot a b l pair (misplaced_back c slot a b l at) }
+  nothing_misplaced_there is = record { none = λ c slot a b l pair at. is.none c slot a b l pair (misplaced_back c slot a b at) }
 
   pub least_misplaced_there : (c a b : ℕ) → LeastMisplaced n name F c a b → LeastMisplaced n name G c a b
   least_misplaced_there c a b is = record {
     in_width = is.in_width;
     slot = is.slot;
     in_pair = is.in_pair;
-    here = misplaced_there c is.slot a b is.in_width is.here;
-    first_slot = λ s x y l at. is.first_slot s x y l (misplaced_back c s x y is.in_width at);
-    before = λ d s x y l pair at. is.before d s x y l pair (let within = is.in_width in misplaced_back d s x y (omega (arith, l, within)) at);
+    here = misplaced_there c is.slot a b is.here;
+    first_slot = λ s x y l at. is.first_slot s x y l (misplaced_back c s x y at);
+    before = λ d s x y l pair at. is.before d s x y l pair (misplaced_back d s x y at);
   }
 
   highest_there : (m : Meta) → IsTop n F name m → IsTop n G name m
-  highest_there m is = record { cloud = is.cloud; in_width = is.in_width; held = holds_there is.cloud m is.in_width is.held; highest = λ c k l h. is.highest c k l (holds_back c k l h) }
+  highest_there m is = record { cloud = is.cloud; in_width = is.in_width; held = holds_there is.cloud m is.held; highest = λ c k l h. is.highest c k l (holds_back c k h) }
 
   pub top_there : (top : Option Meta) → IsTopOrNone n F name top → IsTopOrNone n G name top
-  top_there None is = record { none = λ c m l h. is.none c m l (holds_back c m l h) }
+  top_there None is = record { none = λ c m l h. is.none c m l (holds_back c m h) }
   top_there (Some m) is = highest_there m is
 
   undisputed_there : (top : Option Meta) → IfSome top (Undisputed n F name) → IfSome top (Undisputed n G name)
   undisputed_there None is = tt
-  undisputed_there (Some m) is = record { same = λ c o l h. is.same c o l (holds_back c o l h) }
+  undisputed_there (Some m) is = record { same = λ c o l h. is.same c o l (holds_back c o h) }
 
   pub agreed_there : (top : Option Meta) → IsAgreedTop n name F top → IsAgreedTop n name G top
   agreed_there top is = record { nothing_misplaced = nothing_misplaced_there is.nothing_misplaced; is_top = top_there top is.is_top; undisputed = undisputed_there top is.undisputed }
 
   pub settled_there : (top : Option Meta) → IsSettledOn n F name top → IsSettledOn n G name top
-  settled_there None is = record { none = λ c m l h. is.none c m l (holds_back c m l h) }
-  settled_there (Some m) is = record { each = λ c l. holds_there c m l (is.each c l); highest = λ c k l h. is.highest c k l (holds_back c k l h) }
+  settled_there None is = record { none = λ c m l h. is.none c m l (holds_back c m h) }
+  settled_there (Some m) is = record { each = λ c l. holds_there c m (is.each c l); highest = λ c k l h. is.highest c k l (holds_back c k h) }
 
   pub disputed_there : (generation a b : ℕ) → IsDisputed n F name generation a b → IsDisputed n G name generation a b
   disputed_there generation a b is = record {
@@ -71,22 +74,22 @@ module _ (n : ℕ) (F G : Contents) (name : List ℕ) (same : SameAt n F G name)
     differ = is.differ;
     a_in_width = is.a_in_width;
     b_in_width = is.b_in_width;
-    a_holds = holds_there a is.meta is.a_in_width is.a_holds;
-    b_holds = holds_there b is.other is.b_in_width is.b_holds;
-    highest = λ c o l h. is.highest c o l (holds_back c o l h);
-    before_a = λ c o l h. is.before_a c o l (let within = is.a_in_width in holds_back c o (omega (arith, l, within)) h);
-    before_b = λ c o l h. is.before_b c o l (let within = is.b_in_width in holds_back c o (omega (arith, l, within)) h);
+    a_holds = holds_there a is.meta is.a_holds;
+    b_holds = holds_there b is.other is.b_holds;
+    highest = λ c o l h. is.highest c o l (holds_back c o h);
+    before_a = λ c o l h. is.before_a c o l (holds_back c o h);
+    before_b = λ c o l h. is.before_b c o l (holds_back c o h);
   }
 
   pub tidy_there : (top : Option Meta) → IsTidy n F name top → IsTidy n G name top
-  tidy_there top is = record { all = λ c place bytes l of slots at. is.all c place bytes l of slots (sym (same c place l of) ∙ at) }
+  tidy_there top is = record { all = λ c place bytes l of slots at. is.all c place bytes l of slots (sym (same c place of) ∙ at) }
 
   pub tidied_there : IsTidied n F name → IsTidied n G name
   tidied_there is = record { top = is.top; settled = settled_there is.top is.settled; tidy = tidy_there is.top is.tidy }
 
   -- ---- an act that came to the name at F, or to the same objects at G
 
-  write_refuses_there : (s : Setting) (f : Fault) → WriteRefuses n s name F f → WriteRefuses n s name G f
+  pub write_refuses_there : (s : Setting) (f : Fault) → WriteRefuses n s name F f → WriteRefuses n s name G f
   write_refuses_there s fault.NoFile is = record { top = is.top; agreed = agreed_there is.top is.agreed; not_live = is.not_live }
   write_refuses_there s (fault.Cloud c) is = tt
   write_refuses_there s (fault.Damaged c r how) is = is
@@ -110,7 +113,7 @@ module _ (n : ℕ) (F G : Contents) (name : List ℕ) (same : SameAt n F G name)
   }
 
   module _ (s : Setting) (i : ℕ) (H : Contents) where
-    repair_refuses_there : (f : Fault) → RepairRefuses n s i name F H f → RepairRefuses n s i name G H f
+    pub repair_refuses_there : (f : Fault) → RepairRefuses n s i name F H f → RepairRefuses n s i name G H f
     repair_refuses_there fault.NoFile is = is
     repair_refuses_there (fault.Cloud c) is = tt
     repair_refuses_there (fault.Damaged c r how) is = record { draws = draws_there s i is.draws; here = is.here }
@@ -122,51 +125,24 @@ module _ (n : ℕ) (F G : Contents) (name : List ℕ) (same : SameAt n F G name)
     repair_refuses_there (fault.Spent tried) is = record { all = is.all; old = is.old; top = highest_there (meta.Live is.old) is.top; has_next = is.has_next; none = is.none }
     repair_refuses_there fault.Memory is = tt
 
-    repairs_from : RepairsName n s i name F H → RepairsName n s i name G H
+    pub repairs_from : RepairsName n s i name F H → RepairsName n s i name G H
     repairs_from (mends is) = mends (record { draws = draws_there s i is.draws; is_good = is.is_good; zero = is.zero; one = is.one; held = is.held })
     repairs_from (passes is) = passes (record { top = is.top; agreed = agreed_there is.top is.agreed; not_live = is.not_live; settled = is.settled })
 
     -- the same, where F and G are what it left
-    repairs_to : RepairsName n s i name H F → RepairsName n s i name H G
+    pub repairs_to : RepairsName n s i name H F → RepairsName n s i name H G
     repairs_to (mends is) = mends (record {
       draws = is.draws;
       is_good = is.is_good;
       zero = is.zero;
       one = is.one;
-      held = λ c l. holds_there c (meta.Live (mended_by i is.draws.old is.draws.good is.zero is.one)) l (is.held c l);
+      held = λ c l. holds_there c (meta.Live (mended_by i is.draws.old is.draws.good is.zero is.one)) (is.held c l);
     })
     repairs_to (passes is) = passes (record { top = is.top; agreed = is.agreed; not_live = is.not_live; settled = settled_there is.top is.settled })
 
   module _ (H : Contents) where
-    settles_from : IsSettledFrom n name F H → IsSettledFrom n name G H
+    pub settles_from : IsSettledFrom n name F H → IsSettledFrom n name G H
     settles_from is = record { top = is.top; agreed = agreed_there is.top is.agreed; settled = is.settled }
 
-    settles_to : IsSettledFrom n name H F → IsSettledFrom n name H G
+    pub settles_to : IsSettledFrom n name H F → IsSettledFrom n name H G
     settles_to is = record { top = is.top; agreed = is.agreed; settled = settled_there is.top is.settled }
-
-  pub leaves_from : (s : Setting) (a : Act) (H : Contents) → LeavesName n s a name F H → LeavesName n s a name G H
-  leaves_from s (act.Put own) H = settles_from H
-  leaves_from s (act.Get own) H = settles_from H
-  leaves_from s (act.Remove own) H = settles_from H
-  leaves_from s act.List H = settles_from H
-  leaves_from s (act.Stat own) H = settles_from H
-  leaves_from s (act.Repair i) H = repairs_from s i H
-  leaves_from s act.Recover H = settles_from H
-
-  pub leaves_to : (s : Setting) (a : Act) (H : Contents) → LeavesName n s a name H F → LeavesName n s a name H G
-  leaves_to s (act.Put own) H = settles_to H
-  leaves_to s (act.Get own) H = settles_to H
-  leaves_to s (act.Remove own) H = settles_to H
-  leaves_to s act.List H = settles_to H
-  leaves_to s (act.Stat own) H = settles_to H
-  leaves_to s (act.Repair i) H = repairs_to s i H
-  leaves_to s act.Recover H = settles_to H
-
-  pub refuses_from : (s : Setting) (a : Act) (H : Contents) (f : Fault) → NameRefuses n s a name F H f → NameRefuses n s a name G H f
-  refuses_from s (act.Put own) H f = write_refuses_there s f
-  refuses_from s (act.Get own) H f = write_refuses_there s f
-  refuses_from s (act.Remove own) H f = write_refuses_there s f
-  refuses_from s act.List H f = write_refuses_there s f
-  refuses_from s (act.Stat own) H f = write_refuses_there s f
-  refuses_from s (act.Repair i) H f = repair_refuses_there s i H f
-  refuses_from s act.Recover H f = write_refuses_there s f

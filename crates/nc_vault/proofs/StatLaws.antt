@@ -74,7 +74,7 @@ module _ {A : Type 0} (F : FleetGhosts A) (s : Setting) (name bytes : List ℕ) 
           let V : Vault = record { contents = F.held old; entries = S; damaged = D } in
           λ few. about V m (((shows told).each failing risen).each S D stands few);
     };
-    tidy = λ told sure not. record { each = λ names of works among. absurd (none_among names of works among) };
+    tidy = λ told sure not. record { each = λ names of plain works among. absurd (none_among names of works among) };
   }
 
   refused_counts : (f : FetchFault) → Finds F name old new (Err f) → CountsSay F (act.Stat name) old new (reply.Stopped (fault_of_fetch f) None)

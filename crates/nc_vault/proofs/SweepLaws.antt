@@ -1,5 +1,5 @@
 -- How an act on all names is answered, where it is stopped and where it is done.
-use Rattle.std.proofs.Common.{◌≡◌, ◌≤◌, ◌||◌, ◌&&◌, ℕ, Bool, true, false, Some, List, [], Contains, length, take, slice_get, inr, refl, sym, ap, ◌∙◌, subst}
+use Rattle.std.proofs.Common.{◌≡◌, ◌||◌, ◌&&◌, ℕ, Bool, true, false, Some, List, [], Contains, length, take, slice_get, inr, refl, sym, ap, ◌∙◌, subst}
 use Rattle.std.proofs.lemmas.List.Elements.{Contains-get_or}
 use Rattle.std.proofs.lemmas.Option.{get_or_from_slice_get}
 use Rattle.nc_cloud.specs.Contents.{Contents}
@@ -9,7 +9,6 @@ use Rattle.nc_cloud.specs.declared.deciding.RoundFault.{RoundFault}
 use Rattle.nc_cloud.specs.declared.deciding.RoundFault.TheVariants as round
 use Rattle.nc_cloud.specs.declared.fleet.Fleet.{Ghosts as FleetGhosts}
 use Rattle.nc_cloud.proofs.Time.{goes_then}
-use Rattle.nc_state.specs.ChunkLaws.{SameAt}
 use Rattle.nc_state.specs.Clouds.{Clouds}
 use Rattle.nc_state.specs.Standing.{AreNames, Entries, Stands}
 use Rattle.nc_state.specs.Vaults.{ForEachVault, Vault}
@@ -21,9 +20,9 @@ use Rattle.nc_vault.specs.declared.fault.Fault.{Fault}
 use Rattle.nc_vault.specs.declared.reply.Reply.{Reply}
 use Rattle.nc_vault.specs.declared.reply.Reply.TheVariants as reply
 use Rattle.nc_vault.specs.Acting.{Acted, Changes, LeavesTidy, StaysBefore}
-use Rattle.nc_vault.specs.Counting.{CostsBy, CountsSay, NamesCloud, failing_in, may_read_chunks, rose}
+use Rattle.nc_vault.specs.Counting.{CostsBy, CountsSay, failing_in, may_read_chunks, rose}
 use Rattle.nc_vault.specs.Faults.{fault_of_round}
-use Rattle.nc_vault.specs.Parts.{NamesKept, PartStopped, PartStops}
+use Rattle.nc_vault.specs.Parts.{AtMost, NamesKept, PartStopped, PartStops}
 use Rattle.nc_vault.specs.Replies.{StopsFor}
 use Rattle.nc_vault.specs.Saying.{LeavesName, NameRefuses}
 use Rattle.nc_vault.specs.Sweeping.{PartReads, files_among, sweep_reply}
@@ -33,8 +32,9 @@ use Rattle.nc_vault.proofs.Members.{next_within, take_whole}
 use Rattle.nc_vault.proofs.NameLaws.{version_is}
 use Rattle.nc_vault.proofs.NameParts.{kept_end, kept_stopped, of_here, stopped_at}
 use Rattle.nc_vault.proofs.OneName.{rose_is, vault_of}
-use Rattle.nc_vault.proofs.SameName.{refuses_from}
-use Rattle.nc_vault.proofs.SweepActs.{costs_none, costs_then, done_before, done_counts, done_end, done_kind, done_replies, done_says, done_tidy, done_took, list_refuses, name_refuses, part_before, part_counts, part_stops, sweep_bears, sweep_changes, sweep_lists, sweep_only, sweep_reads, sweep_says, sweep_sees, sweep_stopped, sweep_tells, sweep_unread, sweep_untold, sweep_works}
+use Rattle.nc_vault.proofs.SameAct.{refuses_from}
+use Rattle.nc_vault.proofs.SameName.{SameObjects}
+use Rattle.nc_vault.proofs.SweepActs.{costs_none, costs_then, done_before, done_counts, done_end, done_kind, done_replies, done_says, done_tidy, done_took, list_memory, list_names, list_refuses, name_refuses, part_before, part_counts, part_stops, sweep_changes, sweep_lists, sweep_only, sweep_reads, sweep_says, sweep_sees, sweep_stopped, sweep_tells, sweep_unread, sweep_untold, sweep_works}
 use Rattle.nc_vault.proofs.SweepStates.{SweptSoFar, grows_both, listed_grows, so_far_none}
 
 -- one of two did
@@ -64,16 +64,16 @@ module _ {A : Type 0} (F : FleetGhosts A) (s : Setting) (a : Act) (act_is : swee
     list_counts : (f : RoundFault) → HasCause F.counts_exactly (F.slips old) (F.slips new) f → IsOfCloud (F.clouds old) f
         → CountsSay F a old new (reply.Stopped (fault_of_round f) (Some 0))
     list_counts (round.Cloud c) is below =
-        subst (λ (b : Bool). NamesCloud b F a old new c (Some 0)) (sym (sweep_bears a act_is))
-        (inr (record {
+        list_names a act_is F old new c
+        (record {
           listing = sweep_lists a act_is;
           first = refl;
           in_width = below;
           least = record { rose_here = is.0; least = λ exact d low within. is.1 exact d low };
           faults = λ exact d within. ap (λ (f : ℕ → ℕ). f d) listed.faults;
           held = listed.held;
-        }))
-    list_counts round.Memory is below = tt
+        })
+    list_counts round.Memory is below = list_memory a act_is F old new
 
     list_before : (f : RoundFault) → StaysBefore (F.held old) (F.held new) (reply.Stopped (fault_of_round f) (Some 0))
     list_before (round.Cloud c) = tt
@@ -129,8 +129,8 @@ module _ {A : Type 0} (F : FleetGhosts A) (s : Setting) (a : Act) (act_is : swee
     among : Contains names name
     among = subst (Contains names) (get_or_from_slice_get names done name name next) (Contains-get_or names done name (next_within names done name next))
 
-    same_before : F.tells → SameAt n (F.held mid) (F.held old) name
-    same_before told c place l of = sym (so.others told name is_new c place l of)
+    same_before : F.tells → SameObjects (F.held mid) (F.held old) name
+    same_before told c place of = sym (so.others told name is_new c place of)
 
     refuses_here : F.tells → NameRefuses n s a name (F.held old) (F.held new) f
     refuses_here told =
@@ -151,9 +151,9 @@ module _ {A : Type 0} (F : FleetGhosts A) (s : Setting) (a : Act) (act_is : swee
 
       stops_here : StopsFor n task from (failing_in F a old new) f
       stops_here =
-          part_stops F n task names name among from kept_here.reached.vault (sweep_works a act_is n (F.held old) names (are told))
-          (version_is n task from names done (F.held mid) name next is_new kept_here.reached) kept_here.reached.damaged old mid new so.grows.faults f p.counts
-          (of_here (λ W. PartStops n task name f W) kept_here.reached (subst (λ (k : ℕ). ForEachVault k (F.held mid) (λ W. PartStops k task name f W)) so.clouds (p.stops told)))
+          part_stops F n task names name among from kept_here.reached.vault (sweep_works a act_is n (F.held old) names (are told)) act_is
+          (version_is n task from names done (F.held mid) name next is_new kept_here.reached) kept_here.reached.damaged old mid new so.clouds so.grows.faults f p.counts
+          (of_here (λ W. PartStops F task name mid new f W) kept_here.reached (subst (λ (k : ℕ). ForEachVault k (F.held mid) (PartStops F task name mid new f)) so.clouds (p.stops told)))
 
       begun_here : StandsBegunAt n task from done (F.held new)
       begun_here = stopped_at F n task from names (sweep_works a act_is n (F.held old) names (are told)) done kept_here name next is_new so.clouds (p.begins told) (p.alone told)
@@ -164,7 +164,7 @@ module _ {A : Type 0} (F : FleetGhosts A) (s : Setting) (a : Act) (act_is : swee
       grows = grows_both F so.grows p.grows;
       time = goes_then so.time p.time;
       kind = sweep_stopped a act_is f done;
-      counts = part_counts F a old mid new done f (sweep_bears a act_is) so.grows.faults so.clean p.counts;
+      counts = part_counts a act_is F old mid new done f so.grows.faults so.clean p.counts;
       costs = costs_of old new answer reads_all;
       took = sweep_untold a act_is n f (Some done) (F.chunk_gets old) (F.chunk_gets new);
       before = part_before (F.held old) (F.held mid) (F.held new) done f p.kept so.unchanged;
@@ -189,7 +189,7 @@ module _ {A : Type 0} (F : FleetGhosts A) (s : Setting) (a : Act) (act_is : swee
 
   -- ---- it is done with all names
 
-  module _ (names : List (List ℕ)) (files : ℕ) {old new : A} (fits : FitsWidth (F.clouds old) a) (few : files ≤ length names) (so : SweptSoFar F task names (length names) files old new)
+  module _ (names : List (List ℕ)) (files : ℕ) {old new : A} (fits : FitsWidth (F.clouds old) a) (few : AtMost a files (length names)) (so : SweptSoFar F task names (length names) files old new)
       (are : F.tells → AreNames (F.clouds old) (F.held old) names) where
     abbrev all_reply : Reply
     all_reply = sweep_reply a (length names) files
@@ -203,7 +203,7 @@ module _ {A : Type 0} (F : FleetGhosts A) (s : Setting) (a : Act) (act_is : swee
       grows = so.grows;
       time = so.time;
       kind = done_kind a act_is (length names) files;
-      counts = done_counts a act_is (length names) files F old new (λ exact c within. so.clean exact c);
+      counts = done_counts a act_is (length names) files F old new so.clean;
       costs = costs_of old new all_reply so.reads;
       took = done_took a act_is (length names) files (F.clouds old) (F.chunk_gets old) (F.chunk_gets new) so.took;
       before = done_before a act_is (length names) files (F.held old) (F.held new);
@@ -227,8 +227,8 @@ module _ {A : Type 0} (F : FleetGhosts A) (s : Setting) (a : Act) (act_is : swee
             ((so.counts told).each S D stands ∙ ap (λ (ns : List (List ℕ)). files_among (F.clouds old) a (vault_of (F.held old) S D) ns) (take_whole names));
       };
       tidy = λ told sure none. done_tidy a act_is (length names) files (LeavesTidy (F.clouds old) a (F.held old) (F.held new)) (record {
-        each = λ others name works among.
-            so.tidied told sure none name
+        each = λ others name plain works among.
+            so.tidied told sure plain none name
             (subst (λ (ns : List (List ℕ)). Contains ns name) (sym (take_whole names)) (among_names (F.clouds old) (F.held old) names others name (are told) (sweep_only a act_is (F.clouds old) (F.held old) others works) among));
       });
     }

@@ -1,54 +1,54 @@
 -- How far an act on all names has come, between two names.
-use Rattle.std.proofs.Common.{◌≡◌, ◌<◌, ◌≤◌, ◌+◌, ℕ, true, Some, List, [], Contains, take, slice_get, inl, inr, refl, sym, ap, ◌∙◌, subst, arith}
+use Rattle.std.proofs.Common.{◌≡◌, ◌<◌, ◌≤◌, ◌+◌, ◌*◌, ℕ, true, false, Some, List, [], Contains, take, slice_get, inl, inr, refl, sym, ap, ◌∙◌, subst, arith}
 use Rattle.nc_name.specs.Counts.{Rose}
 use Rattle.nc_cloud.specs.Contents.{Contents}
 use Rattle.nc_cloud.specs.Stopping.{GoesOn}
 use Rattle.nc_cloud.specs.declared.fleet.Fleet.{Ghosts as FleetGhosts}
 use Rattle.nc_cloud.proofs.Counts.{rose_more}
 use Rattle.nc_cloud.proofs.Time.{goes_then, stops_more}
-use Rattle.nc_state.specs.ChunkLaws.{SameAt}
 use Rattle.nc_state.specs.Clouds.{Clouds}
 use Rattle.nc_state.specs.Standing.{AreNames, Entries, Stands}
-use Rattle.nc_state.specs.Vaults.{ForEachVault, Vault, version_in}
-use Rattle.nc_state.specs.Versions.{Version}
+use Rattle.nc_state.specs.Vaults.{ForEachVault, Vault}
 use Rattle.nc_names.specs.Listing.{OnlyListed}
 use Rattle.nc_write.specs.Tidying.{NoneSlipped}
 use Rattle.nc_words.specs.declared.act.Act.{Act}
 use Rattle.nc_words.specs.declared.setting.Setting.{Setting}
 use Rattle.nc_words.specs.Acts.{Task, sweeps, task_of}
 use Rattle.nc_vault.specs.Acting.{IsTidied}
-use Rattle.nc_vault.specs.Counting.{CountsGrow, TookFrom, chunks_from, may_read_chunks}
-use Rattle.nc_vault.specs.Parts.{NamesKept, PartDone, files_in}
+use Rattle.nc_vault.specs.Counting.{CountsGrow, may_read_chunks, restores}
+use Rattle.nc_vault.specs.Parts.{AtMost, CleanPart, NamesKept, PartDone, TookPart, counted_in}
 use Rattle.nc_vault.specs.Saying.{LeavesName}
 use Rattle.nc_vault.specs.Sweeping.{PartReads, files_among}
 use Rattle.nc_vault.specs.Vaults.{StandsBegun, StandsFinished}
 use Rattle.nc_vault.specs.Vaults.Begins.{not_yet}
 use Rattle.nc_vault.specs.declared.reply.Reply.TheVariants as reply
 use Rattle.nc_vault.proofs.Members.{in_none, more_cases, more_in, next_in, one_more}
-use Rattle.nc_vault.proofs.NameLaws.{names_begin, version_is}
+use Rattle.nc_vault.proofs.NameLaws.{name_untouched, names_begin, version_is}
 use Rattle.nc_vault.proofs.NameParts.{kept_more, of_here}
 use Rattle.nc_vault.proofs.OneName.{grows_then, vault_of}
-use Rattle.nc_vault.proofs.SameName.{leaves_from, leaves_to, tidied_there}
-use Rattle.nc_vault.proofs.SweepActs.{costs_none, costs_then, files_more, sweep_works, took_more, took_none}
+use Rattle.nc_vault.proofs.SameAct.{leaves_from, leaves_to}
+use Rattle.nc_vault.proofs.SameName.{SameObjects, tidied_there}
+use Rattle.nc_vault.proofs.SweepActs.{clean_none, clean_then, costs_none, costs_then, counted_same, files_more, most_more, most_none, sweep_works, took_more, took_none}
 
--- It began at `old`, is done with so many of these names, and repaired so many files.
+-- It began at `old`, is done with so many of these names, and counted so much of them.
 pub record SweptSoFar {A : Type 0} (F : FleetGhosts A) (task : Task) (names : List (List ℕ)) (done files : ℕ) (old now : A) : Type 0 where
   pub clouds : F.clouds now ≡ F.clouds old
   pub grows : CountsGrow F old now
   pub time : GoesOn F old now
-  pub took : TookFrom (F.clouds old) (F.chunk_gets old) (F.chunk_gets now) (chunks_from task.act files)
+  pub took : TookPart (F.clouds old) task.act files (F.chunk_gets old) (F.chunk_gets now)
   pub reads : PartReads F task.act old now
-  pub clean : F.counts_exactly → (c : ℕ) → F.faults now c ≡ F.faults old c
+  pub clean : F.counts_exactly → CleanPart task.act (F.faults old) (F.faults now)
   pub unchanged : done ≡ 0 → F.held now ≡ F.held old
-  pub others : F.tells → (name : List ℕ) → (Contains (take done names) name → ⊥) → SameAt (F.clouds old) (F.held old) (F.held now) name
+  pub others : F.tells → (name : List ℕ) → (Contains (take done names) name → ⊥) → SameObjects (F.held old) (F.held now) name
   pub leaves : F.tells → (name : List ℕ) → Contains (take done names) name → LeavesName (F.clouds old) task.setting task.act name (F.held old) (F.held now)
-  pub tidied : F.tells → F.sure_deletes → NoneSlipped F old now → (name : List ℕ) → Contains (take done names) name → IsTidied (F.clouds old) (F.held now) name
+  pub tidied : F.tells → F.sure_deletes → restores task.act ≡ false → NoneSlipped F old now → (name : List ℕ) → Contains (take done names) name → IsTidied (F.clouds old) (F.held now) name
   pub kept : F.tells → ForEachVault (F.clouds old) (F.held old) (NamesKept F (F.clouds old) task names done old now)
   pub counts : F.tells → ForEachVault (F.clouds old) (F.held old) (λ V. files ≡ files_among (F.clouds old) task.act V (take done names))
 
--- the same whatever the bytes of the task, and no more files than names
+-- the same whatever the bytes of the task; a repair counts no more files than names, a restore at most four chunks of each
 pub record Sweeping {A : Type 0} (F : FleetGhosts A) (s : Setting) (a : Act) (names : List (List ℕ)) (done files : ℕ) (old now : A) : Type 0 where
-  pub few : files ≤ done
+  pub few : files ≤ 4 * done
+  pub most : AtMost a files done
   pub clouds : F.clouds now ≡ F.clouds old
   pub so : (bytes : List ℕ) → SweptSoFar F (task_of s a bytes) names done files old now
 
@@ -81,11 +81,11 @@ module _ {A : Type 0} (F : FleetGhosts A) where
       time = listed.stops.time;
       took = took_none a act_is (F.clouds old) (F.chunk_gets old) (F.chunk_gets now) (λ c. ap (λ (f : ℕ → ℕ). f c) listed.gets);
       reads = costs_none (may_read_chunks a (reply.Settled 0)) (F.chunk_gets old) (F.chunk_gets now) (λ c. ap (λ (f : ℕ → ℕ). f c) listed.gets);
-      clean = λ exact c. ap (λ (f : ℕ → ℕ). f c) listed.faults;
+      clean = λ exact. clean_none a act_is (F.faults old) (F.faults now) (λ c. ap (λ (f : ℕ → ℕ). f c) listed.faults);
       unchanged = λ none. listed.held;
-      others = λ told name out c place l of. ap (λ (G : Contents). G c place) listed.held;
+      others = λ told name out c place of. ap (λ (G : Contents). G c place) listed.held;
       leaves = λ told name among. absurd (in_none name among);
-      tidied = λ told sure none name among. absurd (in_none name among);
+      tidied = λ told sure plain none name among. absurd (in_none name among);
       kept = λ told. record {
         each = λ S D stands. record {
           stops = stops_more listed.stops (λ G is. subst (StandsBegun (F.clouds old) task (vault_of (F.held old) S D)) (sym is) (begun_none (F.clouds old) task (vault_of (F.held old) S D) stands));
@@ -101,8 +101,8 @@ module _ {A : Type 0} (F : FleetGhosts A) where
       abbrev n : ℕ
       n = F.clouds old
 
-      same_later : F.tells → (other : List ℕ) → (other ≡ name → ⊥) → SameAt n (F.held mid) (F.held new) other
-      same_later told other differ c place l of = (p.alone told).here.others c place (λ e. differ (sym of ∙ e))
+      same_later : F.tells → (other : List ℕ) → (other ≡ name → ⊥) → SameObjects (F.held mid) (F.held new) other
+      same_later told other differ c place of = (p.alone told).here.others c place (λ e. differ (sym of ∙ e))
 
       early_differs : (other : List ℕ) → Contains (take done names) other → other ≡ name → ⊥
       early_differs other early e = is_new (subst (Contains (take done names)) e early)
@@ -110,8 +110,8 @@ module _ {A : Type 0} (F : FleetGhosts A) where
       late_differs : (other : List ℕ) → (Contains (take (done + 1) names) other → ⊥) → other ≡ name → ⊥
       late_differs other out e = out (subst (Contains (take (done + 1) names)) (sym e) (next_in names done name next))
 
-      same_before : F.tells → SameAt n (F.held mid) (F.held old) name
-      same_before told c place l of = sym (so.others told name is_new c place l of)
+      same_before : F.tells → SameObjects (F.held mid) (F.held old) name
+      same_before told c place of = sym (so.others told name is_new c place of)
 
       leaves_each : F.tells → (other : List ℕ) → Contains (take (done + 1) names) other → LeavesName n s a other (F.held old) (F.held new)
       leaves_each told other among =
@@ -131,11 +131,11 @@ module _ {A : Type 0} (F : FleetGhosts A) where
         none = λ c l rose. none.none c (subst (λ (k : ℕ). c < k) so.clouds l) (rose_more (F.slips old c) (F.slips mid c) (F.slips new c) (so.grows.slips c) rose);
       }
 
-      tidied_each : F.tells → F.sure_deletes → NoneSlipped F old new → (other : List ℕ) → Contains (take (done + 1) names) other → IsTidied n (F.held new) other
-      tidied_each told sure none other among =
+      tidied_each : F.tells → F.sure_deletes → restores a ≡ false → NoneSlipped F old new → (other : List ℕ) → Contains (take (done + 1) names) other → IsTidied n (F.held new) other
+      tidied_each told sure plain none other among =
           elim (more_cases names done name next other among) [
-            | inl early ↦ tidied_there n (F.held mid) (F.held new) other (same_later told other (early_differs other early)) (so.tidied told sure (slipped_before none) other early)
-            | inr e ↦ subst (IsTidied n (F.held new)) e (subst (λ (k : ℕ). IsTidied k (F.held new) name) so.clouds (p.tidy told sure (slipped_here none)))
+            | inl early ↦ tidied_there n (F.held mid) (F.held new) other (same_later told other (early_differs other early)) (so.tidied told sure plain (slipped_before none) other early)
+            | inr e ↦ subst (IsTidied n (F.held new)) e (subst (λ (k : ℕ). IsTidied k (F.held new) name) so.clouds (p.tidy told sure plain (slipped_here none)))
           ]
 
       module _ (told : F.tells) (S : Entries) (D : Clouds) (stands : Stands n (F.held old) S D) where
@@ -145,12 +145,13 @@ module _ {A : Type 0} (F : FleetGhosts A) where
         kept_here : NamesKept F n task names done old mid from
         kept_here = (so.kept told).each S D stands
 
-        -- the files of the name's version are those of its version at the beginning
-        more_is : more ≡ files_in a (version_in n from name)
+        -- what it counts of the name is what it would have counted of it at the beginning
+        more_is : more ≡ counted_in n a from name
         more_is =
-            of_here (λ W. more ≡ files_in a (version_in n W name)) kept_here.reached
-            (subst (λ (k : ℕ). ForEachVault k (F.held mid) (λ W. more ≡ files_in a (version_in k W name))) so.clouds (p.counts told))
-            ∙ ap (λ (x : Version). files_in a x) (version_is n task from names done (F.held mid) name next is_new kept_here.reached)
+            of_here (λ W. more ≡ counted_in n a W name) kept_here.reached
+            (subst (λ (k : ℕ). ForEachVault k (F.held mid) (λ W. more ≡ counted_in k a W name)) so.clouds (p.counts told))
+            ∙ counted_same a act_is n from kept_here.reached.vault name (version_is n task from names done (F.held mid) name next is_new kept_here.reached)
+            (name_untouched n task from names done (F.held mid) name next is_new kept_here.reached).objects
 
         counts_more : files + more ≡ files_among n a from (take (done + 1) names)
         counts_more =
@@ -163,11 +164,11 @@ module _ {A : Type 0} (F : FleetGhosts A) where
         grows = grows_both so.grows p.grows;
         time = goes_then so.time p.time;
         took = took_more a act_is n (F.chunk_gets old) (F.chunk_gets mid) (F.chunk_gets new) files more so.took
-            (subst (λ (k : ℕ). TookFrom k (F.chunk_gets mid) (F.chunk_gets new) (chunks_from a more)) so.clouds p.took);
+            (subst (λ (k : ℕ). TookPart k a more (F.chunk_gets mid) (F.chunk_gets new)) so.clouds p.took);
         reads = costs_then (may_read_chunks a (reply.Settled 0)) (F.chunk_gets old) (F.chunk_gets mid) (F.chunk_gets new) so.reads reads;
-        clean = λ exact c. p.clean exact c ∙ so.clean exact c;
+        clean = λ exact. clean_then a act_is (F.faults old) (F.faults mid) (F.faults new) (so.clean exact) (p.clean exact);
         unchanged = λ none. absurd (omega (arith, none));
-        others = λ told other out c place l of. same_later told other (late_differs other out) c place l of ∙ so.others told other (λ early. out (more_in names done name next other early)) c place l of;
+        others = λ told other out c place of. same_later told other (late_differs other out) c place of ∙ so.others told other (λ early. out (more_in names done name next other early)) c place of;
         leaves = leaves_each;
         tidied = tidied_each;
         kept = λ told. record {
@@ -180,13 +181,14 @@ module _ {A : Type 0} (F : FleetGhosts A) where
 
   module _ (s : Setting) (a : Act) (act_is : sweeps a ≡ true) (names : List (List ℕ)) {old now : A} where
     pub sweeping_none : OnlyListed F old now → Sweeping F s a names 0 0 old now
-    sweeping_none listed = record { few = omega arith; clouds = listed.clouds; so = λ bytes. so_far_none s a act_is bytes names listed }
+    sweeping_none listed = record { few = omega arith; most = most_none a act_is; clouds = listed.clouds; so = λ bytes. so_far_none s a act_is bytes names listed }
 
     pub sweeping_more : {new : A} (done files more : ℕ) (name : List ℕ) → slice_get names done ≡ Some name → (Contains (take done names) name → ⊥) → Sweeping F s a names done files old now
         → ((bytes : List ℕ) → PartDone F (task_of s a bytes) name more now new) → PartReads F a now new → (F.tells → AreNames (F.clouds old) (F.held old) names)
         → Sweeping F s a names (done + 1) (files + more) old new
     sweeping_more done files more name next is_new is parts reads are = record {
-      few = let low = is.few in let one = (parts []).one in omega (arith, low, one);
+      few = let low = is.few in let four = (parts []).few in omega (arith, low, four);
+      most = most_more a act_is files more done is.most (parts []).one;
       clouds = (parts []).clouds ∙ is.clouds;
       so = λ bytes. so_far_more s a act_is bytes names done files more name next is_new (is.so bytes) (parts bytes) reads are;
     }

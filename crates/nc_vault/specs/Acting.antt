@@ -1,5 +1,5 @@
 -- What a step promises.
-use Rattle.std.specs.Prelude.{ℕ, ◌≡◌, Option, None, Some, List, Contains, Result, Ok, Err}
+use Rattle.std.specs.Prelude.{ℕ, ◌≡◌, false, Option, None, Some, List, Contains, Result, Ok, Err}
 use Rattle.nc_meta.specs.declared.meta.Meta.{Meta}
 use Rattle.nc_cloud.specs.Contents.{Contents}
 use Rattle.nc_cloud.specs.Stopping.{GoesOn, Keeps}
@@ -15,7 +15,7 @@ use Rattle.nc_vault.specs.declared.fault.Fault.{Fault}
 use Rattle.nc_vault.specs.declared.fault.Fault.TheVariants as fault
 use Rattle.nc_vault.specs.declared.reply.Reply.{Reply}
 use Rattle.nc_vault.specs.declared.reply.Reply.TheVariants as reply
-use Rattle.nc_vault.specs.Counting.{CostsBy, CountsGrow, CountsSay, ReadsFor, TookBy, may_read_chunks}
+use Rattle.nc_vault.specs.Counting.{CostsBy, CountsGrow, CountsSay, ReadsFor, TookBy, may_read_chunks, restores}
 use Rattle.nc_vault.specs.Replies.{RepliesTo}
 use Rattle.nc_vault.specs.Saying.{Says}
 use Rattle.nc_vault.specs.Seeing.{SeesFor, only_reads}
@@ -27,8 +27,12 @@ TellsHowMany act.List (Some after) = Unit {0}
 TellsHowMany act.List None = ⊥
 TellsHowMany (act.Repair i) (Some after) = Unit {0}
 TellsHowMany (act.Repair i) None = ⊥
+TellsHowMany (act.Restore first second) (Some after) = Unit {0}
+TellsHowMany (act.Restore first second) None = ⊥
 TellsHowMany act.Recover (Some after) = Unit {0}
 TellsHowMany act.Recover None = ⊥
+TellsHowMany act.Scrub (Some after) = Unit {0}
+TellsHowMany act.Scrub None = ⊥
 TellsHowMany other after = after ≡ None
 
 -- how the act is answered where it is done; any may be stopped
@@ -40,7 +44,9 @@ IsReplyTo (act.Remove name) (reply.Removed generation) = Unit {0}
 IsReplyTo (act.Stat name) (reply.About generation len witnessed) = Unit {0}
 IsReplyTo act.List (reply.Listing rows) = Unit {0}
 IsReplyTo (act.Repair i) (reply.Repaired files) = Unit {0}
+IsReplyTo (act.Restore first second) (reply.Restored objects) = Unit {0}
 IsReplyTo act.Recover (reply.Settled names) = Unit {0}
+IsReplyTo act.Scrub (reply.Damage flaws) = Unit {0}
 IsReplyTo a other = ⊥
 
 -- what may change: of a put or a removal objects of its name, of an act on all names any, of all others none
@@ -48,6 +54,7 @@ abbrev pub Changes : Act → Contents → Contents → Type 0
 Changes (act.Put name) F G = ChangesOnlyName name F G
 Changes (act.Remove name) F G = ChangesOnlyName name F G
 Changes (act.Repair i) F G = Unit {0}
+Changes (act.Restore first second) F G = Unit {0}
 Changes act.Recover F G = Unit {0}
 Changes other F G = G ≡ F
 
@@ -68,9 +75,9 @@ pub record IsTidied (n : ℕ) (G : Contents) (name : List ℕ) : Type 0 where
   pub settled : IsSettledOn n G name top
   pub tidy : IsTidy n G name top
 
--- each name that the act worked on is left so
+-- each name that the act worked on is left so; a restore deletes nothing
 pub record LeavesTidy (n : ℕ) (a : Act) (F G : Contents) : Type 0 where
-  pub each : (names : List (List ℕ)) (name : List ℕ) → WorksOn n F a names → Contains names name → IsTidied n G name
+  pub each : (names : List (List ℕ)) (name : List ℕ) → restores a ≡ false → WorksOn n F a names → Contains names name → IsTidied n G name
 
 -- an act that is done
 abbrev pub IfDone : Reply → Type 0 → Type 0

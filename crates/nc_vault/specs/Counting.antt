@@ -1,14 +1,17 @@
 -- What the clouds' counts say of an act.
-use Rattle.std.specs.Prelude.{ℕ, ◌≡◌, ◌⊎◌, ◌<◌, ◌≤◌, ◌==◌, ◌+◌, ◌-◌, ◌^◌, ◌&&◌, ◌||◌, if◌then◌else◌, Bool, true, false, not, Option, Some, min, nat_le}
+use Rattle.std.specs.Prelude.{ℕ, ◌≡◌, ◌⊎◌, ◌<◌, ◌≤◌, ◌==◌, ◌+◌, ◌-◌, ◌^◌, ◌&&◌, ◌||◌, if◌then◌else◌, Bool, true, false, not, Option, Some, List, Contains, min, nat_le}
 use Rattle.nc_name.specs.Counts.{Rose}
 use Rattle.nc_cloud.specs.Contents.{Grows}
 use Rattle.nc_cloud.specs.Fleet.{got_count}
 use Rattle.nc_cloud.specs.declared.fleet.Fleet.{Ghosts as FleetGhosts}
 use Rattle.nc_state.specs.Clouds.{Clouds, count_of}
 use Rattle.nc_state.specs.Vaults.{Vault}
+use Rattle.nc_download.specs.declared.short.Bad.{Bad}
+use Rattle.nc_download.specs.declared.short.Why.TheVariants.{Failed}
 use Rattle.nc_fetch.specs.Costs.{ReadsWhole}
 use Rattle.nc_words.specs.declared.act.Act.{Act}
 use Rattle.nc_words.specs.declared.act.Act.TheVariants as act
+use Rattle.nc_words.specs.Acts.{heals}
 use Rattle.nc_vault.specs.declared.fault.Fault.TheVariants as fault
 use Rattle.nc_vault.specs.declared.reply.Reply.{Reply}
 use Rattle.nc_vault.specs.declared.reply.Reply.TheVariants as reply
@@ -25,7 +28,9 @@ moved before now = not (now == before)
 abbrev pub lists : Act → Bool
 lists act.List = true
 lists (act.Repair i) = true
+lists (act.Restore first second) = true
 lists act.Recover = true
+lists act.Scrub = true
 lists other = false
 
 -- the acts that go on while one or two clouds fail
@@ -84,24 +89,58 @@ NamesNone false F a old new = F.counts_exactly → StayCounts (F.clouds old) (F.
 
 -- A cloud is named only where its count rose, and it is the least; and where one failed, or three, one is named. Where too few clouds
 -- are good, those that failed are listed. A survivor whose chunk isn't good didn't fail, nor did a lower cloud.
+abbrev pub CountsTell : {A : Type 0} → FleetGhosts A → Act → A → A → Reply → Type 0
+CountsTell F a old new (reply.Stopped (fault.Cloud c) after) = NamesCloud (bears_failures a) F a old new c after
+CountsTell F a old new (reply.Stopped (fault.Short bads) after) = Unit {0}
+CountsTell F a old new (reply.Stopped fault.Memory after) = Unit {0}
+CountsTell F a old new (reply.Stopped (fault.Damaged c r how) after) = F.counts_exactly → (d : ℕ) → d ≤ c → F.faults new d ≡ F.faults old d
+CountsTell F a old new other = NamesNone (bears_failures a) F a old new
+
+-- the act that reads files from the other clouds while some of them fail
+abbrev pub restores : Act → Bool
+restores (act.Restore first second) = true
+restores other = false
+
+-- no count of a cloud that the act makes whole changed
+abbrev pub StayHealed : Act → (ℕ → ℕ) → (ℕ → ℕ) → Type 0
+StayHealed a before now = (c : ℕ) → heals a c ≡ true → now c ≡ before c
+
+-- the count of this cloud rose; where counts are exact, that of no lower one that the act makes whole changed
+pub record IsLeastHealed (exact : Type 0) (a : Act) (before now : ℕ → ℕ) (c : ℕ) : Type 0 where
+  pub rose_here : Rose (before c) (now c)
+  pub least : exact → (d : ℕ) → d < c → heals a d ≡ true → now d ≡ before d
+
+-- each cloud that is listed as one that failed did: its count rose
+pub record HaveFailed (bads : List Bad) (before now : ℕ → ℕ) : Type 0 where
+  pub each : (b : Bad) → Contains bads b → b.why ≡ Failed → Rose (before b.cloud) (now b.cloud)
+
+-- The same of a restore: only the clouds that it makes whole must not fail.
+abbrev pub RestoreTells : {A : Type 0} → FleetGhosts A → Act → A → A → Reply → Type 0
+RestoreTells F a old new (reply.Stopped (fault.Cloud c) after) = IsLeastHealed F.counts_exactly a (F.faults old) (F.faults new) c ⊎ FailedToList F a old new c after
+RestoreTells F a old new (reply.Stopped (fault.Short bads) after) = (F.counts_exactly → StayHealed a (F.faults old) (F.faults new)) × HaveFailed bads (F.faults old) (F.faults new)
+RestoreTells F a old new (reply.Stopped fault.Memory after) = Unit {0}
+RestoreTells F a old new other = F.counts_exactly → StayHealed a (F.faults old) (F.faults new)
+
+abbrev pub CountsFor : {A : Type 0} → Bool → FleetGhosts A → Act → A → A → Reply → Type 0
+CountsFor true F a old new answer = RestoreTells F a old new answer
+CountsFor false F a old new answer = CountsTell F a old new answer
+
 abbrev pub CountsSay : {A : Type 0} → FleetGhosts A → Act → A → A → Reply → Type 0
-CountsSay F a old new (reply.Stopped (fault.Cloud c) after) = NamesCloud (bears_failures a) F a old new c after
-CountsSay F a old new (reply.Stopped (fault.Short bads) after) = Unit {0}
-CountsSay F a old new (reply.Stopped fault.Memory after) = Unit {0}
-CountsSay F a old new (reply.Stopped (fault.Damaged c r how) after) = F.counts_exactly → (d : ℕ) → d ≤ c → F.faults new d ≡ F.faults old d
-CountsSay F a old new other = NamesNone (bears_failures a) F a old new
+CountsSay F a old new answer = CountsFor (restores a) F a old new answer
 
 -- no count fell
 pub record CountsGrow {A : Type 0} (F : FleetGhosts A) (old new : A) : Type 0 where
   pub faults : Grows (F.faults old) (F.faults new)
   pub slips : Grows (F.slips old) (F.slips new)
 
--- The acts but get and repair read no chunk; nor does a get that the metadata refuses.
+-- The acts but get, repair, restore and scrub read no chunk; nor does a get that the metadata refuses.
 abbrev pub may_read_chunks : Act → Reply → Bool
 may_read_chunks (act.Get name) (reply.Bytes v) = true
 may_read_chunks (act.Get name) (reply.Stopped (fault.Short bads) after) = true
 may_read_chunks (act.Get name) (reply.Stopped fault.Memory after) = true
 may_read_chunks (act.Repair i) answer = true
+may_read_chunks (act.Restore first second) answer = true
+may_read_chunks act.Scrub answer = true
 may_read_chunks a other = false
 
 abbrev pub CostsBy : Bool → (ℕ → ℕ) → (ℕ → ℕ) → Type 0

@@ -1,4 +1,4 @@
--- Faults of rounds, of settling, of writing, of repairing and of fetching as faults of commands.
+-- Faults of rounds, of settling, of writing, of repairing, of restoring and of fetching as faults of commands.
 use Rattle.nc_cloud.specs.declared.deciding.RoundFault.{RoundFault}
 use Rattle.nc_cloud.specs.declared.deciding.RoundFault.TheVariants as round
 use Rattle.nc_settle.specs.declared.settled.SettleFault.{SettleFault}
@@ -7,6 +7,8 @@ use Rattle.nc_write.specs.declared.fault.WriteFault.{WriteFault}
 use Rattle.nc_write.specs.declared.fault.WriteFault.TheVariants as write
 use Rattle.nc_repair.specs.declared.fault.RepairFault.{RepairFault}
 use Rattle.nc_repair.specs.declared.fault.RepairFault.TheVariants as repair
+use Rattle.nc_restore.specs.declared.fault.RestoreFault.{RestoreFault}
+use Rattle.nc_restore.specs.declared.fault.RestoreFault.TheVariants as restore
 use Rattle.nc_download.specs.declared.fault.FetchFault.{FetchFault}
 use Rattle.nc_download.specs.declared.fault.FetchFault.TheVariants as fetch
 use Rattle.nc_vault.specs.declared.fault.Fault.{Fault}
@@ -32,6 +34,12 @@ fault_of_repair (repair.Cloud c) = Cloud c
 fault_of_repair (repair.Damaged c r how) = Damaged c r how
 fault_of_repair repair.Worn = Worn
 fault_of_repair repair.Memory = Memory
+
+abbrev pub fault_of_restore : RestoreFault → Fault
+fault_of_restore (restore.Cloud c) = Cloud c
+fault_of_restore (restore.Short list) = Short list
+fault_of_restore (restore.Unsound a b) = Unsound a b
+fault_of_restore restore.Memory = Memory
 
 abbrev pub fault_of_fetch : FetchFault → Fault
 fault_of_fetch fetch.NoFile = NoFile

@@ -1,5 +1,6 @@
 pub mod Acting
 pub mod Counting
+pub mod Damage
 pub mod Drawing
 pub mod Faults
 pub mod Listing
@@ -7,7 +8,9 @@ pub mod Makings
 pub mod Parts
 pub mod Repairing
 pub mod Replies
+pub mod Restoring
 pub mod Saying
+pub mod Scrubbing
 pub mod Seeing
 pub mod Showing
 pub mod Sweeping

@@ -26,6 +26,7 @@ abbrev pub WorksOn : ℕ → Contents → Act → List (List ℕ) → Type 0
 WorksOn n F (act.Put name) names = names ≡ name ∷ []
 WorksOn n F (act.Remove name) names = names ≡ name ∷ []
 WorksOn n F (act.Repair i) names = AreNames n F names
+WorksOn n F (act.Restore first second) names = AreNames n F names
 WorksOn n F act.Recover names = AreNames n F names
 WorksOn n F other names = names ≡ []
 
@@ -37,6 +38,8 @@ fills other c = heals other c
 -- of the damaged clouds, those that still are once the act is done
 abbrev pub still_damaged : Act → Clouds → Clouds
 still_damaged (act.Repair i) D = without_cloud D i
+still_damaged (act.Restore first None) D = without_cloud D first
+still_damaged (act.Restore first (Some second)) D = without_cloud (without_cloud D first) second
 still_damaged other D = D
 
 -- ---- one name
@@ -115,8 +118,10 @@ pub record StandsDone (n : ℕ) (task : Task) (V : Vault) (G : Contents) : Type 
 -- an act on all names that was stopped tells how many it was done with; any other tells nothing
 abbrev pub TellsDone : Act → Option ℕ → ℕ → Type 0
 TellsDone (act.Repair i) after done = after ≡ Some done
+TellsDone (act.Restore first second) after done = after ≡ Some done
 TellsDone act.Recover after done = after ≡ Some done
 TellsDone act.List after done = IsSome after
+TellsDone act.Scrub after done = IsSome after
 TellsDone other after done = after ≡ None
 
 pub record StandsStopped (n : ℕ) (task : Task) (V : Vault) (G : Contents) (after : Option ℕ) : Type 0 where

@@ -5,7 +5,7 @@ use Rattle.nc_meta.specs.Metas.{IsMeta}
 use Rattle.nc_cloud.specs.Stopping.{GoesOn, Keeps}
 use Rattle.nc_cloud.specs.declared.fleet.Fleet.{Ghosts as FleetGhosts}
 use Rattle.nc_settle.specs.declared.settled.SettleFault.{SettleFault}
-use Rattle.nc_settle.specs.Settling.{HasSettleCause, IsSeenFault, SettleBegins, SettleRefuses}
+use Rattle.nc_settle.specs.Settling.{ChangesOnlyMetas, HasSettleCause, IsSeenFault, SettleBegins, SettleRefuses}
 use Rattle.nc_state.specs.Holding.{IsSettledOn}
 use Rattle.nc_state.specs.Vaults.{ChangesOnlyName, ComesTo, ForEachVault, MayBegin, MayDo}
 use Rattle.nc_state.specs.Versions.{Version}
@@ -34,6 +34,7 @@ pub record IsSettled {A : Type 0} (F : FleetGhosts A) (name : List ℕ) (old new
   pub agreed : F.tells → IsAgreedTop (F.clouds old) name (F.held old) top
   pub comes : F.tells → ForEachVault (F.clouds old) (F.held old) (λ V. ComesTo (F.clouds old) name V (F.held new) top)
   pub settled : F.tells → IsSettledOn (F.clouds old) (F.held new) name top
+  pub chunks : F.tells → ChangesOnlyMetas name (F.held old) (F.held new)
   pub fits : IfSome top (IsMeta (F.clouds old))
   pub clean : F.counts_exactly → (c : ℕ) → F.faults new c ≡ F.faults old c
 

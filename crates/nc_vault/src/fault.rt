@@ -1,10 +1,11 @@
 ghost use Rattle.std.specs.Prelude.{◌≡◌};
-ghost use Rattle.nc_vault.specs.Faults.{fault_of_fetch, fault_of_repair, fault_of_settle, fault_of_write};
+ghost use Rattle.nc_vault.specs.Faults.{fault_of_fetch, fault_of_repair, fault_of_restore, fault_of_settle, fault_of_write};
 ghost use Rattle.nc_vault.specs.declared.fault.Fault.TheVariants.{Memory as NoMemory};
 
 use nc_download::{FetchFault, How, ShortList};
 use nc_name::Memory;
 use nc_repair::RepairFault;
+use nc_restore::RestoreFault;
 use nc_settle::SettleFault;
 use nc_write::WriteFault;
 use thiserror::Error;
@@ -109,6 +110,19 @@ impl From<RepairFault> for Fault {
             RepairFault::Damaged { cloud, row, how } => Fault::Damaged { cloud, row, how },
             RepairFault::Worn => Fault::Worn,
             RepairFault::Memory => Fault::Memory,
+        }
+    }
+}
+
+impl From<RestoreFault> for Fault {
+    ghost from_gives = { λ restore fault. fault ≡ fault_of_restore restore };
+
+    fn from(fault: RestoreFault) -> Fault {
+        match fault {
+            RestoreFault::Cloud(cloud) => Fault::Cloud(cloud),
+            RestoreFault::Short(list) => Fault::Short(list),
+            RestoreFault::Unsound { a, b } => Fault::Unsound { a, b },
+            RestoreFault::Memory => Fault::Memory,
         }
     }
 }

@@ -13,11 +13,13 @@ mod recovering;
 mod removing;
 mod repairing;
 mod reply;
+mod restoring;
 mod rows;
+mod scrubbing;
 mod statting;
 mod stepping;
 mod sweeping;
 
 pub use fault::Fault;
-pub use reply::{FileRow, Reply, Rows};
+pub use reply::{FileRow, NamedFlaw, NamedFlaws, Reply, Rows};
 pub use stepping::step;

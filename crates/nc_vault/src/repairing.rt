@@ -1,21 +1,19 @@
 //! The repair of one name.
 ghost use Rattle.std.specs.Prelude.{◌≡◌, ◌<◌, ◌≤◌, ℕ, IfErr, IfNone, IfOk, IfSome, List, Some};
 ghost use Rattle.nc_meta.specs.Metas.{IsLive};
-ghost use Rattle.nc_meta.specs.declared.meta.Meta.TheVariants.{Live as LiveMeta};
-ghost use Rattle.nc_state.specs.Holding.{IsLiveTop};
 ghost use Rattle.nc_words.specs.declared.act.Act.TheVariants as act;
 ghost use Rattle.nc_words.specs.Acts.{task_of};
 ghost use Rattle.nc_words.specs.Settings.{IsSetting};
 ghost use Rattle.nc_vault.specs.Parts.{PartDone, PartStopped};
 ghost use Rattle.nc_vault.specs.Repairing.{IsFileMended, IsFileUnmended};
 
-use crate::coming::come;
+use crate::coming::{come, file_of};
 use crate::drawing::draw_repair;
 use crate::fault::Fault;
 use crate::finishing::finish;
 use crate::putting::told_name;
 use nc_cloud::Fleet;
-use nc_meta::{Live, Meta};
+use nc_meta::Live;
 use nc_name::Name;
 use nc_repair::repair_one;
 use nc_settle::Settled;
@@ -110,16 +108,5 @@ fn mend_file<R: Threads + Sync, F: Fleet>(
     ) {
         Ok(after) => Ok(after),
         Err(fault) => Err(Fault::from(fault)),
-    }
-}
-
-/// The metadata of the file that the name is settled on, if it is one.
-fn file_of(top: &Settled) -> Option<Live>
-    ensures file { IfSome result (λ live. top.now.top ≡ Some (LiveMeta live)) }
-    ensures none { IfNone result (IsLiveTop top.now.top → ⊥) }
-{
-    match &top.top {
-        Some(Meta::Live(live)) => Some(*live),
-        Some(Meta::Gone { .. }) | None => None,
     }
 }

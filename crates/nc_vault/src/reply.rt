@@ -1,5 +1,6 @@
 use crate::fault::Fault;
 use nc_name::{Blob, Name, Sequence};
+use nc_scrub::Flaw;
 
 /// A file, as a list of all tells it.
 #[derive(Clone, Copy, Debug)]
@@ -11,6 +12,16 @@ pub struct FileRow {
 
 /// All files, by name.
 pub type Rows = Sequence<FileRow>;
+
+/// A part of a name that isn't right.
+#[derive(Clone, Copy, Debug)]
+pub struct NamedFlaw {
+    pub name: Name,
+    pub flaw: Flaw,
+}
+
+/// What isn't right, name by name, and of each name by cloud.
+pub type NamedFlaws = Sequence<NamedFlaw>;
 
 /// How an act is answered.
 #[derive(Debug, Drop)]
@@ -37,10 +48,16 @@ pub enum Reply {
     Repaired {
         files: u64,
     },
+    /// One cloud or two were made whole from the files: so many objects were written.
+    Restored {
+        objects: u64,
+    },
     /// So many names were brought to rest.
     Settled {
         names: u64,
     },
+    /// What isn't right of all names; nothing, where no part is told.
+    Damage(NamedFlaws),
     /// The act wasn't done, for this cause; of an act on all names, with how many of them it was.
     Stopped {
         fault: Fault,

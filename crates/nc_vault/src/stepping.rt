@@ -8,6 +8,7 @@ use crate::listing::list;
 use crate::putting::put;
 use crate::removing::remove;
 use crate::reply::Reply;
+use crate::scrubbing::scrub;
 use crate::statting::stat;
 use crate::sweeping::sweep;
 use nc_cloud::Fleet;
@@ -38,6 +39,9 @@ pub fn step<R: Threads + Sync, F: Fleet>(
         Act::Remove(name) => remove(alloc, fleet, name),
         Act::List => list(alloc, fleet),
         Act::Stat(name) => stat(alloc, fleet, name),
-        Act::Repair(_) | Act::Recover => sweep(rt, alloc, fleet, setting, act),
+        Act::Repair(_) | Act::Restore { .. } | Act::Recover => sweep(
+            rt, alloc, fleet, setting, act,
+        ),
+        Act::Scrub => scrub(alloc, fleet),
     }
 }

@@ -1,4 +1,4 @@
-//! The acts on all names: `recover` and `repair`.
+//! The acts on all names: `recover`, `repair` and `restore`.
 ghost use Rattle.std.specs.Prelude.{◌≡◌, ◌≤◌, ℕ, IfErr, IfOk, List, OnOk, Some, true};
 ghost use Rattle.nc_words.specs.Acts.{FitsWidth, sweeps, task_of};
 ghost use Rattle.nc_words.specs.Settings.{IsSetting};
@@ -11,6 +11,7 @@ use crate::fault::Fault;
 use crate::recovering::recover_name;
 use crate::repairing::repair_name;
 use crate::reply::Reply;
+use crate::restoring::restore_name;
 use nc_cloud::{Fleet, RoundFault};
 use nc_name::Name;
 use nc_names::all_names;
@@ -39,17 +40,17 @@ pub(crate) fn sweep<R: Threads + Sync, F: Fleet>(
         Ok(names) => names,
         Err(fault) => return stopped(list_fault(fault), 0),
     };
-    let mut files = 0;
+    let mut count = 0;
     for done in 0..names.len() {
         match sweep_name(rt, alloc, fleet, setting, act, &names[done]) {
-            Ok(more) => files += more,
+            Ok(more) => count += more,
             Err(fault) => return stopped(fault, done),
         }
     }
-    done_with(act, names.len() as u64, files)
+    done_with(act, names.len() as u64, count)
 }
 
-/// The part of the act on one name. It tells how many files it repaired: one or none.
+/// The part of the act on one name. It tells what it counts: of a repair the files, of a restore the chunks that it wrote.
 fn sweep_name<R: Threads + Sync, F: Fleet>(
     rt: &R,
     alloc: Global,
@@ -73,22 +74,26 @@ fn sweep_name<R: Threads + Sync, F: Fleet>(
     match act {
         Act::Repair(lost) => repair_name(rt, alloc, fleet, setting, name, *lost),
         Act::Recover => recover_name(alloc, fleet, name),
+        Act::Restore { first, second } => restore_name(
+            rt, alloc, fleet, setting, name, *first, *second,
+        ),
         _ => unreachable!(),
     }
 }
 
-/// How the act is answered that is done with so many names, and repaired so many files.
-fn done_with(act: &Act, names: u64, files: u64) -> Reply
-    ensures { result ≡ sweep_reply act.now names files }
+/// How the act is answered that is done with so many names, and counted so much.
+fn done_with(act: &Act, names: u64, count: u64) -> Reply
+    ensures { result ≡ sweep_reply act.now names count }
 {
     match act {
-        Act::Repair(_) => Reply::Repaired { files },
+        Act::Repair(_) => Reply::Repaired { files: count },
+        Act::Restore { .. } => Reply::Restored { objects: count },
         _ => Reply::Settled { names },
     }
 }
 
 /// What a failed round of lists is told as.
-fn list_fault(fault: RoundFault) -> Fault
+pub(crate) fn list_fault(fault: RoundFault) -> Fault
     ensures { result ≡ fault_of_round fault }
 {
     match fault {
@@ -98,7 +103,7 @@ fn list_fault(fault: RoundFault) -> Fault
 }
 
 /// The act was stopped once so many names were done.
-fn stopped(fault: Fault, done: usize) -> Reply
+pub(crate) fn stopped(fault: Fault, done: usize) -> Reply
     ensures { result ≡ Reply.Stopped fault (Some done) }
 {
     Reply::Stopped {

@@ -29,3 +29,9 @@ returns-in-Stat g c = record {
 
 pub returns-in-Repair : goal.returns-in-Repair
 returns-in-Repair g c = record { acted = c.sweep.ensures.acted c.args.bytes.now }
+
+pub returns-in-Scrub : goal.returns-in-Scrub
+returns-in-Scrub g c = record {
+  acted = subst (λ (a : Act). Acted g.F.Fleet (task_of c.args.setting.now a c.args.bytes.now) c.args.fleet.now c.scrub.new.fleet c.scrub.result) (sym c.in-Scrub.is)
+      (c.scrub.ensures.acted c.args.setting.now c.args.bytes.now);
+}
