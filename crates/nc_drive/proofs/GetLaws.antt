@@ -63,7 +63,9 @@ bytes_answer name (reply.Removed generation) status out kind ok ended = absurd k
 bytes_answer name (reply.Listing rows) status out kind ok ended = absurd kind
 bytes_answer name (reply.About generation len witnessed) status out kind ok ended = absurd kind
 bytes_answer name (reply.Repaired files) status out kind ok ended = absurd kind
+bytes_answer name (reply.Restored objects) status out kind ok ended = absurd kind
 bytes_answer name (reply.Settled names) status out kind ok ended = absurd kind
+bytes_answer name (reply.Damage flaws) status out kind ok ended = absurd kind
 
 -- ---- after a drive
 

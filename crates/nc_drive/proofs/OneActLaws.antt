@@ -180,7 +180,9 @@ stopped_for (reply.Removed generation) cause undone is = absurd cc
 stopped_for (reply.Listing rows) cause undone is = absurd cc
 stopped_for (reply.About generation len witnessed) cause undone is = absurd cc
 stopped_for (reply.Repaired files) cause undone is = absurd cc
+stopped_for (reply.Restored objects) cause undone is = absurd cc
 stopped_for (reply.Settled names) cause undone is = absurd cc
+stopped_for (reply.Damage flaws) cause undone is = absurd cc
 
 pub fault_answer : (answer : Reply) (status : Status) (out : List ℕ) (cause : Fault) → status ≡ st.Vault cause → Ended answer status out → StoppedFor cause answer
 fault_answer answer status out cause is (was_done done ok said) =

@@ -1,5 +1,5 @@
 -- What a repair leaves after a drive.
-use Rattle.std.proofs.Common.{◌≡◌, ◌∙◌, ◌+◌, ℕ, List, [], ◌∷◌, codes, refl, sym, ap, subst, arith}
+use Rattle.std.proofs.Common.{◌≡◌, ◌∙◌, ◌+◌, ℕ, None, Some, List, [], ◌∷◌, codes, refl, sym, ap, subst, arith}
 use Rattle.nc_state.specs.Vaults.{IsVault, Vault}
 use Rattle.nc_words.specs.declared.act.Act.{Act}
 use Rattle.nc_words.specs.declared.act.Act.TheVariants as act
@@ -45,6 +45,12 @@ asked_cloud n text cloud (command.Act (act.Repair own)) is means =
     let words : codes "repair" ∷ text ∷ [] ≡ codes "repair" ∷ means.text ∷ [] = means.words_are in
     let same : text ≡ means.text = cc in
     ap (λ (k : ℕ). command.Act (act.Repair k)) (same_number text means.text cloud own same is means.number.number)
+asked_cloud n text cloud (command.Act (act.Restore first None)) is means =
+    let words : codes "repair" ∷ text ∷ [] ≡ codes "restore" ∷ means.text ∷ [] = means.words_are in
+    absurd cc
+asked_cloud n text cloud (command.Act (act.Restore first (Some second))) is means =
+    let words : codes "repair" ∷ text ∷ [] ≡ codes "restore" ∷ means.text ∷ means.other ∷ [] = means.words_are in
+    absurd cc
 asked_cloud n text cloud (command.Act other) is means =
     one_command (cloud + 1) (codes "repair" ∷ text ∷ []) (command.Act other) (command.Act (act.Repair cloud)) means (asked_alone text cloud is)
 
@@ -73,7 +79,9 @@ did_repair cloud (reply.Stored generation) status out kind ok ended = absurd kin
 did_repair cloud (reply.Removed generation) status out kind ok ended = absurd kind
 did_repair cloud (reply.Listing rows) status out kind ok ended = absurd kind
 did_repair cloud (reply.About generation len witnessed) status out kind ok ended = absurd kind
+did_repair cloud (reply.Restored objects) status out kind ok ended = absurd kind
 did_repair cloud (reply.Settled names) status out kind ok ended = absurd kind
+did_repair cloud (reply.Damage flaws) status out kind ok ended = absurd kind
 
 -- ---- what it leaves of a vault
 

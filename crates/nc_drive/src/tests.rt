@@ -144,6 +144,8 @@ fn a_run_without_the_round_is_a_run(rt: HostRuntime) -> Result<(), Fail> {
     let events = [
         run(alloc, "put a", b"abc")?,
         stop(alloc, "get a", b"", 1000, &[])?,
+        stop(alloc, "restore 0 1", b"", 1000, &[])?,
+        stop(alloc, "scrub", b"", 1000, &[])?,
         stop(alloc, "look a", b"", 0, &[])?,
         stop(alloc, "put a", b"new!", 0, &[Torn::New])?,
         run(alloc, "get a", b"")?,
@@ -159,7 +161,16 @@ fn a_run_without_the_round_is_a_run(rt: HostRuntime) -> Result<(), Fail> {
     }
     assert_eq!(rt;
         told.as_slice(),
-        [(0, 13, 1), (0, 3, 1), (2, 0, 0), (0, 0, 0), (0, 3, 1)].as_slice()
+        [
+            (0, 13, 1),
+            (0, 3, 1),
+            (0, 11, 1),
+            (0, 0, 1),
+            (2, 0, 0),
+            (0, 0, 0),
+            (0, 3, 1)
+        ]
+        .as_slice()
     );
     Ok(())
 }

@@ -9,8 +9,8 @@ use Rattle.nc_state.specs.Versions.Version.{Never, Removed, Stored}
 use Rattle.nc_words.specs.declared.act.Act.{Act}
 use Rattle.nc_words.specs.declared.act.Act.TheVariants as act
 use Rattle.nc_words.specs.Acts.{Task}
-use Rattle.nc_vault.specs.Counting.{bears_failures}
-use Rattle.nc_vault.specs.Replies.{CannotBe, FindsDamaged, FindsNoFile, IsPrevented, RepliesBy, StopsFor}
+use Rattle.nc_vault.specs.Counting.{bears_failures, restores}
+use Rattle.nc_vault.specs.Replies.{CannotBe, FindsDamaged, FindsNoFile, FindsTooFew, IsPrevented, RepliesBy, StopsFor}
 use Rattle.nc_vault.specs.Showing.{ReadsFile, ReadsNone}
 use Rattle.nc_vault.specs.Vaults.{WorksOn}
 use Rattle.nc_vault.specs.declared.fault.Fault.{Fault}
@@ -61,7 +61,7 @@ stops_only : (n : ℕ) (get : Task) (W : Vault) (X : Clouds) (name : List ℕ) (
 stops_only n get W X name fault.NoFile is few stops = tt
 stops_only n get W X name (fault.Cloud c) is few stops = stops
 stops_only n get W X name (fault.Damaged c r how) is few stops = subst (λ (a : Act). FindsDamaged n a W.damaged c) is stops
-stops_only n get W X name (fault.Short bads) is few stops = cannot_be n W X (bears_failures get.act) few stops
+stops_only n get W X name (fault.Short bads) is few stops = subst (λ (a : Act). FindsTooFew (restores a) n a W X) is stops few
 stops_only n get W X name (fault.Conflict generation a b) is few stops = cannot_be n W X (bears_failures get.act) few stops
 stops_only n get W X name (fault.Misplaced c a w) is few stops = stops
 stops_only n get W X name (fault.Unsound a b) is few stops = cannot_be n W X (bears_failures get.act) few stops

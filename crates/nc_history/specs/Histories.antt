@@ -44,7 +44,7 @@ pub record StandsHappened (n : ℕ) (h : Happening) (V : Vault) (G : Contents) :
 
 -- ---- how many clouds are damaged
 
--- those of D that are still damaged once these acts were done
+-- those of D that are still damaged once these acts were done: a repair or a restore makes its clouds whole
 abbrev pub damaged_after : List Task → Clouds → Clouds
 damaged_after [] D = D
 damaged_after (task ∷ tasks) D = damaged_after tasks (still_damaged task.act D)

@@ -26,8 +26,8 @@ pub fn history_stands()
     ensures { HistoryStands }
 {}
 
-/// A loss adds its cloud to the damaged ones, and a repair that was done takes its cloud from them.
-/// Nothing else changes them.
+/// A loss adds its cloud to the damaged ones, and a repair or a restore that was done takes its
+/// clouds from them. Nothing else changes them.
 pub fn losses_are_few()
     ensures damaged { DamageIs }
     ensures few { LossesAreFew }

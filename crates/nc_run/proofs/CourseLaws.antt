@@ -88,7 +88,9 @@ module _ {A C W : Type 0} (F : FleetGhosts A) (K : SinkGhosts C) (V : WatchGhost
   course_told (reply.Listing rows) acted saw all quiet = told (reply.Listing rows) refl acted saw all
   course_told (reply.About generation len witnessed) acted saw all quiet = told (reply.About generation len witnessed) refl acted saw all
   course_told (reply.Repaired files) acted saw all quiet = told (reply.Repaired files) refl acted saw all
+  course_told (reply.Restored objects) acted saw all quiet = told (reply.Restored objects) refl acted saw all
   course_told (reply.Settled names) acted saw all quiet = told (reply.Settled names) refl acted saw all
+  course_told (reply.Damage flaws) acted saw all quiet = told (reply.Damage flaws) refl acted saw all
   course_told (reply.Stopped cause after) acted saw all quiet = record {
     course = record {
       done = [];

@@ -40,7 +40,9 @@ done_end n task V G (reply.Bytes bytes) done end = end
 done_end n task V G (reply.Listing rows) done end = end
 done_end n task V G (reply.About generation len witnessed) done end = end
 done_end n task V G (reply.Repaired files) done end = end
+done_end n task V G (reply.Restored objects) done end = end
 done_end n task V G (reply.Settled names) done end = end
+done_end n task V G (reply.Damage flaws) done end = end
 
 stopped_end : (n : ℕ) (task : Task) (V : Vault) (G : Contents) (answer : Reply) → is_done answer ≡ false → StandsAtEnd n task V G answer → StandsBegun n task V G
 stopped_end n task V G (reply.Stopped cause after) done end = end.left
@@ -50,7 +52,9 @@ stopped_end n task V G (reply.Bytes bytes) done end = absurd cc
 stopped_end n task V G (reply.Listing rows) done end = absurd cc
 stopped_end n task V G (reply.About generation len witnessed) done end = absurd cc
 stopped_end n task V G (reply.Repaired files) done end = absurd cc
+stopped_end n task V G (reply.Restored objects) done end = absurd cc
 stopped_end n task V G (reply.Settled names) done end = absurd cc
+stopped_end n task V G (reply.Damage flaws) done end = absurd cc
 
 -- ---- what leads to contents
 

@@ -6,6 +6,7 @@ mod saying;
 mod sending;
 mod status;
 mod taking;
+mod telling;
 mod watching;
 
 pub use running::{run, run_shown};

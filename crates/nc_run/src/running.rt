@@ -164,8 +164,8 @@ fn was_done(reply: &Reply) -> bool
     match reply {
         Reply::Stopped { .. } => false,
         Reply::Stored { .. } | Reply::Removed { .. } => true,
-        Reply::Repaired { .. } | Reply::Settled { .. } => true,
-        Reply::Bytes(_) | Reply::Listing(_) | Reply::About { .. } => true,
+        Reply::Repaired { .. } | Reply::Restored { .. } | Reply::Settled { .. } => true,
+        Reply::Bytes(_) | Reply::Listing(_) | Reply::About { .. } | Reply::Damage(_) => true,
     }
 }
 
@@ -188,6 +188,8 @@ fn status_by(reply: Reply) -> Status
             witnessed: _,
         } => Status::Ok,
         Reply::Repaired { files: _ } => Status::Ok,
+        Reply::Restored { objects: _ } => Status::Ok,
         Reply::Settled { names: _ } => Status::Ok,
+        Reply::Damage(_) => Status::Ok,
     }
 }

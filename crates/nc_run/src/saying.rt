@@ -6,6 +6,7 @@ ghost use Rattle.nc_run.specs.Texts.{about_text, number_text, row_text, text_of,
 ghost use Rattle.nc_run.specs.Turns.{is_done};
 
 use crate::sending::{send, send_parts};
+use crate::telling::say_flaws;
 use itoa::Buffer;
 use nc_stream::{Failed, Sink};
 use nc_vault::{FileRow, Reply};
@@ -27,7 +28,9 @@ pub fn say<K: Sink>(out: &mut K, reply: &Reply) -> Result<(), Failed>
             witnessed,
         } => say_about(out, *generation, *len, *witnessed),
         Reply::Repaired { files } => say_number(out, b"repaired ", *files),
+        Reply::Restored { objects } => say_number(out, b"restored ", *objects),
         Reply::Settled { names } => say_number(out, b"settled ", *names),
+        Reply::Damage(flaws) => say_flaws(out, flaws.items()),
         Reply::Stopped { .. } => Ok(()),
     }
 }

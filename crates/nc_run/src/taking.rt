@@ -21,7 +21,14 @@ pub fn take_input<S: Source>(
     match command {
         Command::Act(Act::Put(_)) => read_all(alloc, source),
         Command::Act(
-            Act::Get(_) | Act::Remove(_) | Act::List | Act::Stat(_) | Act::Repair(_) | Act::Recover,
+            Act::Get(_)
+            | Act::Remove(_)
+            | Act::List
+            | Act::Stat(_)
+            | Act::Repair(_)
+            | Act::Restore { .. }
+            | Act::Scrub
+            | Act::Recover,
         ) => Ok(Blob::from_vec(Vec::new(alloc))),
     }
 }
