@@ -21,6 +21,7 @@ impl Stage {
                 check_number(object(&self.clouds, cloud.parse()?, key)?.len(), wanted)?;
             }
             ["gets", "of", "chunks", ref wanted @ ..] => self.check_gets(wanted)?,
+            ["rounds", "of", ref wanted @ ..] => self.check_rounds(wanted)?,
             ["digest", cloud, key, wanted] => {
                 let found = Sha256::digest(object(&self.clouds, cloud.parse()?, key)?);
                 check_bytes(&found, hex::decode(self.alloc, wanted)?.as_slice())?;
@@ -46,6 +47,18 @@ impl Stage {
             if self.clouds.gets(cloud) != wanted.parse()? {
                 return Err(Fail::new(format_args!("another count of gets of cloud {cloud}")));
             }
+        }
+        Ok(())
+    }
+
+    /// The last run had so many rounds as numbers stand here, and each had so many entries.
+    fn check_rounds(&self, wanted: &[&str]) -> Result<(), Fail> {
+        let rounds = self.clouds.rounds();
+        if rounds != wanted.len() as u64 {
+            return Err(Fail::new(format_args!("there were {rounds} rounds")));
+        }
+        for (round, wanted) in (0..rounds).zip(wanted) {
+            check_number(self.clouds.entries(round), wanted)?;
         }
         Ok(())
     }

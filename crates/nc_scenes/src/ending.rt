@@ -1,9 +1,11 @@
 //! How a run must end.
 
-use crate::running::Outcome;
-use crate::value::bytes_of;
+use crate::running::{Outcome, Setup};
+use crate::value::{bytes_of, piece_bytes};
+use nc_cloud::Fleet;
 use std::alloc::Global;
 use std::test::Fail;
+use std::thread::Threads;
 
 /// How a run must end: the exit code and the status, its output, and how many objects there are then, where that is asked.
 #[derive(Drop)]
@@ -36,6 +38,25 @@ pub fn check_end(alloc: Global, outcome: &Outcome, end: &End<'_>) -> Result<(), 
     let pieces: Vec<&str> = end.output.split_whitespace().collect(alloc)?;
     let wanted = bytes_of(alloc, &pieces)?;
     check_bytes(outcome.output.bytes(), wanted.as_slice())
+}
+
+/// A run of these words ends so. The input stands after the words, where there is some.
+pub fn check_run<R: Threads + Sync + AllocGlobal, F: Fleet>(
+    rt: &R,
+    fleet: &mut F,
+    run: &str,
+    end: &str,
+) -> Result<(), Fail>
+    requires ready { F.ready }
+{
+    let alloc = rt.alloc();
+    let (words, input) = match run.split_once(" < ") {
+        Some(parts) => parts,
+        None => (run, "zeros:0"),
+    };
+    let setup = Setup::new(piece_bytes(alloc, input)?);
+    let outcome = setup.run(rt, fleet, words)?;
+    check_end(alloc, &outcome, &end_of(end))
 }
 
 pub fn check_answer(found: &str, wanted: &str) -> Result<(), Fail> {

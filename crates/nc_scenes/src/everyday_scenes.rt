@@ -4,7 +4,7 @@ use crate::player::play;
 use std::test::Fail;
 
 #[test]
-fn everyday_scenes(rt: HostRuntime) -> Result<(), Fail> {
+fn a_file_is_told_until_it_is_removed(rt: HostRuntime) -> Result<(), Fail> {
     play(
         &rt,
         r#"
@@ -37,7 +37,15 @@ fn everyday_scenes(rt: HostRuntime) -> Result<(), Fail> {
         ls -> 0 Ok
         recover -> 0 Ok = "settled·1¶"
         objects 0
+        "#,
+    )
+}
 
+#[test]
+fn a_put_that_stopped_in_its_metadata_is_settled(rt: HostRuntime) -> Result<(), Fail> {
+    play(
+        &rt,
+        r#"
         # a put that stopped in its metadata is settled, and nothing is left of the file before
         clouds 4
         put a < "old" -> 0 Ok = generation:1
@@ -67,7 +75,15 @@ fn everyday_scenes(rt: HostRuntime) -> Result<(), Fail> {
         recover -> 0 Ok = "settled·1¶"
         lose 0
         get a -> 0 Ok = "new!"
+        "#,
+    )
+}
 
+#[test]
+fn files_are_listed_by_name(rt: HostRuntime) -> Result<(), Fail> {
+    play(
+        &rt,
+        r#"
         # files that were never stored, removed, and stored, side by side; names of one byte, of 100, and with spaces
         clouds 4
         raw 3 m-62-0 "junk"
@@ -82,7 +98,15 @@ fn everyday_scenes(rt: HostRuntime) -> Result<(), Fail> {
         objects 52
         rm n·of·two -> 0 Ok = generation:2
         ls -> 0 Ok = "1·Z¶8·a¶0·llllllllllllllllllllllllllllllllllllllllllllllllllllllllllllllllllllllllllllllllllllllllllllllllllll¶"
+        "#,
+    )
+}
 
+#[test]
+fn failed_deletes_change_no_answer(rt: HostRuntime) -> Result<(), Fail> {
+    play(
+        &rt,
+        r#"
         # a delete that fails changes no answer: the metadata before, and chunks of the slots that aren't named
         clouds 4
         put a < "old" -> 0 Ok = generation:1
@@ -107,7 +131,15 @@ fn everyday_scenes(rt: HostRuntime) -> Result<(), Fail> {
         stopped in round 6 leaving old new gone broken: put a < "new!"
         get a -> 0 Ok = "new!"
         without two: get a -> 0 Ok = "new!"
+        "#,
+    )
+}
 
+#[test]
+fn one_failing_cloud_ends_recover_and_three_end_ls(rt: HostRuntime) -> Result<(), Fail> {
+    play(
+        &rt,
+        r#"
         # a list or a look that fails ends recover; of ls, three clouds do
         clouds 4
         put a < "abcdefgh" -> 0 Ok = generation:1
@@ -121,7 +153,15 @@ fn everyday_scenes(rt: HostRuntime) -> Result<(), Fail> {
         failing 2 6 7: ls -> 4 Vault(Cloud(1)) leaving 12 12 12 12
         failing 3 5: stat a -> 0 Ok = "generation·1·length·8·witnesses·yes¶" leaving 12 12 12 12
         failing 2 5 8: stat a -> 4 Vault(Cloud(0)) leaving 12 12 12 12
+        "#,
+    )
+}
 
+#[test]
+fn removals_that_stop_or_are_refused(rt: HostRuntime) -> Result<(), Fail> {
+    play(
+        &rt,
+        r#"
         # a removal that fails in its metadata, and one that stops there
         clouds 4
         put a < "abcdefgh" -> 0 Ok = generation:1
@@ -141,7 +181,15 @@ fn everyday_scenes(rt: HostRuntime) -> Result<(), Fail> {
         stat a -> 0 Ok = "generation·18446744073709551614·length·8·witnesses·no¶"
         rm a -> 12 Vault(Worn)
         unchanged
+        "#,
+    )
+}
 
+#[test]
+fn contradicting_metadata_is_told(rt: HostRuntime) -> Result<(), Fail> {
+    play(
+        &rt,
+        r#"
         # what contradicts itself is told
         clouds 4
         put b < "abc" -> 0 Ok = generation:1

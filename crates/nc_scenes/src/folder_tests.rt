@@ -1,16 +1,89 @@
 //! Runs over folders. What stands in them is the system's word, so tests alone look at it.
 
-use crate::ending::{check_end, end_of};
-use crate::running::Setup;
-use crate::value::piece_bytes;
-use nc_cloud::{Fanned, Fleet};
+use crate::ending::check_run;
+use nc_cloud::Fanned;
 use nc_folder::FolderCloud;
 use std::fs;
 use std::test::Fail;
-use std::thread::Threads;
 
 /// Four folders.
 static LIST: &str = "scratch_file/0,scratch_file/1,scratch_file/2,scratch_file/3";
+
+/// A file is repaired on an emptied folder, read without two others, restored on these, and removed.
+static REPAIRED: &str = r#"
+    put photos.db < mixed:3000000 -> 0 Ok = generation:1
+    raze scratch_file/2
+    make scratch_file/2
+    repair 2 -> 0 Ok = "repaired·1¶"
+    has scratch_file/2/c-70686f746f732e6462-1-0
+    has scratch_file/2/c-70686f746f732e6462-1-1
+    lacks scratch_file/1/c-70686f746f732e6462-1-0
+    raze scratch_file/0
+    make scratch_file/0
+    raze scratch_file/3
+    make scratch_file/3
+    get photos.db -> 0 Ok = mixed:3000000
+    restore 0 3 -> 0 Ok = "restored·4¶"
+    has scratch_file/0/c-70686f746f732e6462-0-0
+    has scratch_file/3/c-70686f746f732e6462-0-1
+    scrub -> 0 Ok
+    rm photos.db -> 0 Ok = generation:3"#;
+
+/// A file is written over, and what is no chunk, or a folder in a chunk's place, stands in one of the folders.
+static CHANGED: &str = r#"
+    put a < mixed:300000 -> 0 Ok = generation:1
+    get a -> 0 Ok = mixed:300000
+    write scratch_file/0/c-61-0-0
+    get a -> 0 Ok = mixed:300000
+    remove scratch_file/2/c-61-0-1
+    get a -> 0 Ok = mixed:300000
+    lacks scratch_file/2/m-61-0
+    put a < mixed:5 -> 0 Ok = generation:2
+    get a -> 0 Ok = mixed:5
+    lacks scratch_file/2/c-61-0-0
+    lacks scratch_file/2/c-61-0-1
+    has scratch_file/2/c-61-1-0
+    has scratch_file/2/c-61-1-1
+    has scratch_file/2/m-61-0
+    lacks scratch_file/2/m-61-1
+    make scratch_file/2/c-61-0-1
+    get a -> 0 Ok = mixed:5
+    put a < mixed:4 -> 4 Vault(Cloud(2))
+    get a -> 0 Ok = mixed:5
+    raze scratch_file/2/c-61-0-1
+    put a < mixed:4 -> 0 Ok = generation:3
+    get a -> 0 Ok = mixed:4
+    rm a -> 0 Ok = generation:4
+    has scratch_file/2/m-61-0
+    lacks scratch_file/2/m-61-1
+    lacks scratch_file/2/c-61-0-0
+    lacks scratch_file/2/c-61-0-1
+    ls -> 0 Ok
+    put a < mixed:4 -> 0 Ok = generation:5
+    ls -> 0 Ok = "4·a¶"
+    stat a -> 0 Ok = "generation·5·length·4·witnesses·yes¶"
+    remove scratch_file/2/c-61-0-1
+    make scratch_file/2/c-61-0-1
+    get a -> 0 Ok = mixed:4
+    recover -> 0 Ok = "settled·2¶""#;
+
+/// Folders go one after the other.
+static RAZED: &str = r#"
+    raze scratch_file/3
+    get a -> 0 Ok = mixed:4
+    get b -> 3 Vault(NoFile)
+    put b -> 4 Vault(Cloud(3))
+    scrub -> 4 Vault(Cloud(3))
+    restore 0 -> 4 Vault(Cloud(3))
+    raze scratch_file/1
+    get a -> 5 Short: 1 failed, 2 failed, 3 failed
+    get b -> 3 Vault(NoFile)
+    put b -> 4 Vault(Cloud(1))
+    write scratch_file/1
+    get b -> 3 Vault(NoFile)
+    put b -> 4 Vault(Cloud(1))
+    raze scratch_file/0
+    get b -> 4 Vault(Cloud(0))"#;
 
 /// The clouds of this list of folders, or none where there is no list.
 fn clouds_of(rt: HostRuntime, list: Option<&str>) -> Result<Vec<FolderCloud>, Fail> {
@@ -21,25 +94,6 @@ fn clouds_of(rt: HostRuntime, list: Option<&str>) -> Result<Vec<FolderCloud>, Fa
         }
     }
     Ok(clouds)
-}
-
-/// A run of these words ends so. The input stands after the words, where there is some.
-fn check_run<R: Threads + Sync + AllocGlobal, F: Fleet>(
-    rt: &R,
-    fleet: &mut F,
-    run: &str,
-    end: &str,
-) -> Result<(), Fail>
-    requires ready { F.ready }
-{
-    let alloc = rt.alloc();
-    let (words, input) = match run.split_once(" < ") {
-        Some(parts) => parts,
-        None => (run, "zeros:0"),
-    };
-    let setup = Setup::new(piece_bytes(alloc, input)?);
-    let outcome = setup.run(rt, fleet, words)?;
-    check_end(alloc, &outcome, &end_of(end))
 }
 
 /// Makes four folders, without what an earlier run left there.
@@ -80,74 +134,14 @@ fn check_stands(rt: &HostRuntime, path: &str, wanted: bool) -> Result<(), Fail> 
 fn a_file_stands_in_folders(rt: HostRuntime) -> Result<(), Fail> {
     make_folders(&rt)?;
     let mut fleet = Fanned::new(rt, rt.alloc(), clouds_of(rt, Some(LIST))?)?;
-    let scene = r#"
-        put photos.db < mixed:3000000 -> 0 Ok = generation:1
-        raze scratch_file/2
-        make scratch_file/2
-        repair 2 -> 0 Ok = "repaired·1¶"
-        has scratch_file/2/c-70686f746f732e6462-1-0
-        has scratch_file/2/c-70686f746f732e6462-1-1
-        lacks scratch_file/1/c-70686f746f732e6462-1-0
-        raze scratch_file/0
-        make scratch_file/0
-        raze scratch_file/3
-        make scratch_file/3
-        get photos.db -> 0 Ok = mixed:3000000
-        rm photos.db -> 0 Ok = generation:3
-        put a < mixed:300000 -> 0 Ok = generation:1
-        get a -> 0 Ok = mixed:300000
-        write scratch_file/0/c-61-0-0
-        get a -> 0 Ok = mixed:300000
-        remove scratch_file/2/c-61-0-1
-        get a -> 0 Ok = mixed:300000
-        lacks scratch_file/2/m-61-0
-        put a < mixed:5 -> 0 Ok = generation:2
-        get a -> 0 Ok = mixed:5
-        lacks scratch_file/2/c-61-0-0
-        lacks scratch_file/2/c-61-0-1
-        has scratch_file/2/c-61-1-0
-        has scratch_file/2/c-61-1-1
-        has scratch_file/2/m-61-0
-        lacks scratch_file/2/m-61-1
-        make scratch_file/2/c-61-0-1
-        get a -> 0 Ok = mixed:5
-        put a < mixed:4 -> 4 Vault(Cloud(2))
-        get a -> 0 Ok = mixed:5
-        raze scratch_file/2/c-61-0-1
-        put a < mixed:4 -> 0 Ok = generation:3
-        get a -> 0 Ok = mixed:4
-        rm a -> 0 Ok = generation:4
-        has scratch_file/2/m-61-0
-        lacks scratch_file/2/m-61-1
-        lacks scratch_file/2/c-61-0-0
-        lacks scratch_file/2/c-61-0-1
-        ls -> 0 Ok
-        put a < mixed:4 -> 0 Ok = generation:5
-        ls -> 0 Ok = "4·a¶"
-        stat a -> 0 Ok = "generation·5·length·4·witnesses·yes¶"
-        remove scratch_file/2/c-61-0-1
-        make scratch_file/2/c-61-0-1
-        get a -> 0 Ok = mixed:4
-        recover -> 0 Ok = "settled·2¶"
-        raze scratch_file/3
-        get a -> 0 Ok = mixed:4
-        get b -> 3 Vault(NoFile)
-        put b -> 4 Vault(Cloud(3))
-        raze scratch_file/1
-        get a -> 5 Short: 1 failed, 2 failed, 3 failed
-        get b -> 3 Vault(NoFile)
-        put b -> 4 Vault(Cloud(1))
-        write scratch_file/1
-        get b -> 3 Vault(NoFile)
-        put b -> 4 Vault(Cloud(1))
-        raze scratch_file/0
-        get b -> 4 Vault(Cloud(0))"#;
-    for line in scene.lines() {
-        let line = line.trim();
-        if let Some((words, end)) = line.split_once(" -> ") {
-            check_run(&rt, &mut fleet, words, end)?;
-        } else if let Some((act, path)) = line.split_once(' ') {
-            perform(&rt, act, path)?;
+    for scene in [REPAIRED, CHANGED, RAZED] {
+        for line in scene.lines() {
+            let line = line.trim();
+            if let Some((words, end)) = line.split_once(" -> ") {
+                check_run(&rt, &mut fleet, words, end)?;
+            } else if let Some((act, path)) = line.split_once(' ') {
+                perform(&rt, act, path)?;
+            }
         }
     }
     fs::remove_dir_all(&rt, "scratch_file")?;

@@ -4,7 +4,7 @@ use crate::player::play;
 use std::test::Fail;
 
 #[test]
-fn get_scenes(rt: HostRuntime) -> Result<(), Fail> {
+fn short_files_come_back_without_any_two_clouds(rt: HostRuntime) -> Result<(), Fail> {
     play(
         &rt,
         r#"
@@ -40,7 +40,15 @@ fn get_scenes(rt: HostRuntime) -> Result<(), Fail> {
         without two: get p -> 0 Ok = mixed:16
         put Z < mixed:17 -> 0 Ok = generation:1
         without two: get Z -> 0 Ok = mixed:17
+        "#,
+    )
+}
 
+#[test]
+fn an_output_gets_the_bytes_until_it_fails(rt: HostRuntime) -> Result<(), Fail> {
+    play(
+        &rt,
+        r#"
         # an output that takes a byte a call gets the file whole
         clouds 4
         put a < mixed:1003 -> 0 Ok = generation:1
@@ -54,7 +62,15 @@ fn get_scenes(rt: HostRuntime) -> Result<(), Fail> {
         write 2 fails
         get a -> 9 WriteFault = "abcde"
         unchanged
+        "#,
+    )
+}
 
+#[test]
+fn metadata_that_is_not_whole_is_passed_over(rt: HostRuntime) -> Result<(), Fail> {
+    play(
+        &rt,
+        r#"
         # a name without whole metadata is no file
         clouds 4
         put a < "abcdefgh" -> 0 Ok = generation:1
@@ -70,7 +86,15 @@ fn get_scenes(rt: HostRuntime) -> Result<(), Fail> {
         put a < "abcdefgh" -> 0 Ok = generation:1
         copy 1 m-61-1 to 3
         get a -> 0 Ok = "abcdefgh"
+        "#,
+    )
+}
 
+#[test]
+fn two_spoiled_clouds_are_passed_over(rt: HostRuntime) -> Result<(), Fail> {
+    play(
+        &rt,
+        r#"
         # two spoiled clouds are passed over: an object is gone, cut by a byte, another cloud's, or of another file, "ijklmnop";
         # then it is sealed as it was, by bench/plain.py
         clouds 4
@@ -95,7 +119,15 @@ fn get_scenes(rt: HostRuntime) -> Result<(), Fail> {
         cut 1 c-61-0-1
         seal 3 c-61-0-1 9177
         get a -> 0 Ok = "abcdefgh"
+        "#,
+    )
+}
 
+#[test]
+fn three_spoiled_clouds_are_listed(rt: HostRuntime) -> Result<(), Fail> {
+    play(
+        &rt,
+        r#"
         # more spoiled clouds are listed, each with its cause
         clouds 4
         put a < "abcdefgh" -> 0 Ok = generation:1
@@ -124,7 +156,15 @@ fn get_scenes(rt: HostRuntime) -> Result<(), Fail> {
         seal 2 as 3 of 4 c-61-0-0 0404
         seal 3 c-61-0-0 040c
         get a -> 5 Short: 0 row 0 Missing, 1 row 1 Broken, 2 row 0 Broken, 3 row 0 Marked
+        "#,
+    )
+}
 
+#[test]
+fn two_failing_clouds_are_borne(rt: HostRuntime) -> Result<(), Fail> {
+    play(
+        &rt,
+        r#"
         # a get bears two failing clouds. Entries 1 to 8 look for metadata; then each cloud that is wanted is asked for row 0, and where
         # that was good for row 1
         clouds 4
@@ -146,7 +186,15 @@ fn get_scenes(rt: HostRuntime) -> Result<(), Fail> {
         entry 11 fails leaving old
         get a -> 0 Ok = "abcdefgh"
         gets of chunks 1 2 2 0
+        "#,
+    )
+}
 
+#[test]
+fn three_failing_clouds_are_told(rt: HostRuntime) -> Result<(), Fail> {
+    play(
+        &rt,
+        r#"
         # three that fail in the look end it, and the least is named; that fail later, they are listed
         clouds 4
         put a < "abcdefgh" -> 0 Ok = generation:1
@@ -160,7 +208,15 @@ fn get_scenes(rt: HostRuntime) -> Result<(), Fail> {
         failing 1: get a -> 0 Ok = "abcdefgh" leaving 9 9 9 9
         failing 1 9: get a -> 0 Ok = "abcdefgh" leaving 9 9 9 9
         failing 1 12: get a -> 5 Short: 0 failed, 1 row 0 Missing, 3 failed leaving 9 9 9 9
+        "#,
+    )
+}
 
+#[test]
+fn no_more_clouds_are_asked_than_are_wanted(rt: HostRuntime) -> Result<(), Fail> {
+    play(
+        &rt,
+        r#"
         # clouds 0 and 1 are emptied, then cloud 2 loses a chunk, and at last all are empty
         clouds 4
         put a < "abcdefgh" -> 0 Ok = generation:1

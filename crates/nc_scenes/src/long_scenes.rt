@@ -4,7 +4,7 @@ use crate::player::play;
 use std::test::Fail;
 
 #[test]
-fn long_scenes(rt: HostRuntime) -> Result<(), Fail> {
+fn long_files_come_back(rt: HostRuntime) -> Result<(), Fail> {
     play(
         &rt,
         r#"

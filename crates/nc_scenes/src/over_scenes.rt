@@ -4,7 +4,7 @@ use crate::player::play;
 use std::test::Fail;
 
 #[test]
-fn over_scenes(rt: HostRuntime) -> Result<(), Fail> {
+fn nothing_is_left_of_the_version_before(rt: HostRuntime) -> Result<(), Fail> {
     play(
         &rt,
         r#"
@@ -23,6 +23,24 @@ fn over_scenes(rt: HostRuntime) -> Result<(), Fail> {
         put b < "y" -> 0 Ok = generation:1
         get a -> 0 Ok = "x"
 
+        # a short file over a long one, and a long one over it
+        clouds 7
+        put a < mixed:100003 -> 0 Ok = generation:1
+        put a < mixed:11 -> 0 Ok = generation:2
+        get a -> 0 Ok = mixed:11
+        put a < mixed:100003 -> 0 Ok = generation:3
+        lose 0
+        lose 6
+        get a -> 0 Ok = mixed:100003
+        "#,
+    )
+}
+
+#[test]
+fn metadata_is_written_on_the_other_clouds_first(rt: HostRuntime) -> Result<(), Fail> {
+    play(
+        &rt,
+        r#"
         # metadata on one cloud is written on the others first
         clouds 4
         seal 0 m-61-1 live:1
@@ -51,7 +69,15 @@ fn over_scenes(rt: HostRuntime) -> Result<(), Fail> {
         objects 48
         without two: get a -> 0 Ok = "abc"
         without two: get Z -> 0 Ok = "abc"
+        "#,
+    )
+}
 
+#[test]
+fn an_emptied_cloud_gets_metadata_and_the_new_file(rt: HostRuntime) -> Result<(), Fail> {
+    play(
+        &rt,
+        r#"
         # a cloud that was emptied gets the metadata first, and then all of the new file
         clouds 4
         put a < "abcdefgh" -> 0 Ok = generation:1
@@ -68,17 +94,15 @@ fn over_scenes(rt: HostRuntime) -> Result<(), Fail> {
         size 1 c-61-1-0 57
         size 1 c-61-1-1 57
         without two: get a -> 0 Ok = "abc"
+        "#,
+    )
+}
 
-        # a short file over a long one, and a long one over it
-        clouds 7
-        put a < mixed:100003 -> 0 Ok = generation:1
-        put a < mixed:11 -> 0 Ok = generation:2
-        get a -> 0 Ok = mixed:11
-        put a < mixed:100003 -> 0 Ok = generation:3
-        lose 0
-        lose 6
-        get a -> 0 Ok = mixed:100003
-
+#[test]
+fn chunks_go_beside_those_of_the_version_before(rt: HostRuntime) -> Result<(), Fail> {
+    play(
+        &rt,
+        r#"
         # over a file without witnesses
         clouds 4
         seal each c-61-0-0 "ab" "ef" 0404 abae
@@ -109,7 +133,15 @@ fn over_scenes(rt: HostRuntime) -> Result<(), Fail> {
         payloads c-61-0-0 e8 37 ed 56
         payloads c-61-0-1 31 a5 68 aa
         get a -> 0 Ok = "abc"
+        "#,
+    )
+}
 
+#[test]
+fn a_file_that_does_not_come_back_is_replaced(rt: HostRuntime) -> Result<(), Fail> {
+    play(
+        &rt,
+        r#"
         # over a file of which too few clouds are good
         clouds 4
         put a < "abcdefgh" -> 0 Ok = generation:1
@@ -126,7 +158,15 @@ fn over_scenes(rt: HostRuntime) -> Result<(), Fail> {
         get a -> 11 Vault(Unsound { a: 0, b: 1 })
         put a < "abc" -> 0 Ok = generation:2
         without two: get a -> 0 Ok = "abc"
+        "#,
+    )
+}
 
+#[test]
+fn the_highest_generation_counts(rt: HostRuntime) -> Result<(), Fail> {
+    play(
+        &rt,
+        r#"
         # the highest generation counts, and lower ones aren't compared
         clouds 4
         seal 0 m-61-0 gone:2
@@ -136,6 +176,21 @@ fn over_scenes(rt: HostRuntime) -> Result<(), Fail> {
         each holds m-61-0 c-61-1-0 c-61-1-1
         get a -> 0 Ok = "abc"
 
+        # a generation past the last one is none
+        clouds 4
+        seal all m-61-1 live:18446744073709551615
+        get a -> 3 Vault(NoFile)
+        put a < "abc" -> 0 Ok = generation:1
+        objects 12
+        "#,
+    )
+}
+
+#[test]
+fn the_last_generation_has_no_next_one(rt: HostRuntime) -> Result<(), Fail> {
+    play(
+        &rt,
+        r#"
         # the last generation has no next one
         clouds 4
         seal each c-61-0-0 "ab" "ef" 0404 abae
@@ -159,14 +214,15 @@ fn over_scenes(rt: HostRuntime) -> Result<(), Fail> {
         put a < "x" -> 12 Vault(Worn)
         objects 12
         get a -> 0 Ok = "abc"
+        "#,
+    )
+}
 
-        # a generation past the last one is none
-        clouds 4
-        seal all m-61-1 live:18446744073709551615
-        get a -> 3 Vault(NoFile)
-        put a < "abc" -> 0 Ok = generation:1
-        objects 12
-
+#[test]
+fn a_put_ends_where_no_candidate_is_good(rt: HostRuntime) -> Result<(), Fail> {
+    play(
+        &rt,
+        r#"
         # a put ends where no candidate is good, after the name is settled; at four clouds the first candidates of p for
         # generation 1 and of a for generation 37 aren't good, and the second are, by bench/plain.py
         clouds 4

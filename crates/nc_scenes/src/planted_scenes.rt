@@ -1,16 +1,16 @@
 //! Puts and gets over clouds on which objects were placed: what other programs or later commands may leave, and what none
 //! does.
+//!
+//! The chunks here are those of "abcdefgh" by the striped code, worked by hand from docs/FORMATS.md.
 
 use crate::player::play;
 use std::test::Fail;
 
 #[test]
-fn planted_scenes(rt: HostRuntime) -> Result<(), Fail> {
+fn metadata_stands_in_the_slot_of_its_generation(rt: HostRuntime) -> Result<(), Fail> {
     play(
         &rt,
         r#"
-        # the chunks here are those of "abcdefgh" by the striped code, worked by hand from docs/FORMATS.md
-
         # a file without witnesses is given, without any two clouds too
         clouds 4
         seal each c-61-0-0 "ab" "ef" 0404 abae
@@ -41,7 +41,15 @@ fn planted_scenes(rt: HostRuntime) -> Result<(), Fail> {
         seal 0 m-61-1 gone:2
         get a -> 3 Vault(NoFile)
         put a < "abc" -> 0 Ok = generation:1
+        "#,
+    )
+}
 
+#[test]
+fn the_highest_generation_counts(rt: HostRuntime) -> Result<(), Fail> {
+    play(
+        &rt,
+        r#"
         # a deleted file is none
         clouds 4
         seal 1 m-61-0 gone:2
@@ -70,7 +78,15 @@ fn planted_scenes(rt: HostRuntime) -> Result<(), Fail> {
         seal 1 m-61-1 gone:3
         seal 3 m-61-1 gone:3
         get a -> 3 Vault(NoFile)
+        "#,
+    )
+}
 
+#[test]
+fn a_conflict_is_told(rt: HostRuntime) -> Result<(), Fail> {
+    play(
+        &rt,
+        r#"
         # a conflict of the highest generation is told
         clouds 4
         seal 0 m-61-1 gone:3
@@ -89,7 +105,15 @@ fn planted_scenes(rt: HostRuntime) -> Result<(), Fail> {
         get a -> 11 Vault(Conflict { generation: 2, a: 1, b: 3 })
         put a < "abc" -> 11 Vault(Conflict { generation: 2, a: 1, b: 3 })
         unchanged
+        "#,
+    )
+}
 
+#[test]
+fn metadata_of_elsewhere_is_told(rt: HostRuntime) -> Result<(), Fail> {
+    play(
+        &rt,
+        r#"
         # metadata of another cloud beside metadata of the clouds' own is told by a put alone, and before a conflict
         clouds 4
         put a < "abcdefgh" -> 0 Ok = generation:1
@@ -124,7 +148,15 @@ fn planted_scenes(rt: HostRuntime) -> Result<(), Fail> {
         get a -> 11 Vault(Misplaced { cloud: 0, said_cloud: 1, said_width: 4 })
         put a < "abc" -> 11 Vault(Misplaced { cloud: 0, said_cloud: 1, said_width: 4 })
         unchanged
+        "#,
+    )
+}
 
+#[test]
+fn a_code_that_stands_no_loss_is_told(rt: HostRuntime) -> Result<(), Fail> {
+    play(
+        &rt,
+        r#"
         # a code that stands no loss is told before chunks are read
         clouds 4
         seal each c-61-0-0 "ab" "ef" 0404 abae

@@ -13,7 +13,7 @@ use std::test::Fail;
 use std::thread::Threads;
 
 /// The ways in which an entry fails, in the order of the numbers after `leaving`.
-static FATES: [Torn; 4] = [Torn::Old, Torn::New, Torn::Gone, Torn::Broken];
+pub static FATES: [Torn; 4] = [Torn::Old, Torn::New, Torn::Gone, Torn::Broken];
 
 /// Where a scene stands.
 #[derive(Drop)]
@@ -91,6 +91,12 @@ impl Stage {
             None => ("", run),
         };
         let words = self.take_input(words)?;
+        if let Some((command, range)) = how.split_once(" stops at ") {
+            return self.run_interrupted(rt, command, "4 Vault(Cloud(", range, words, end);
+        }
+        if let Some((command, range)) = how.split_once(" bears ") {
+            return self.run_interrupted(rt, command, "0 Ok", range, words, end);
+        }
         let how: Vec<&str> = how.split_whitespace().collect(self.alloc)?;
         match *how {
             [] => self.run(rt, words, end),
@@ -114,7 +120,8 @@ impl Stage {
         }
     }
 
-    fn copy(&self) -> Result<MemFleet, Fail> {
+    /// The same clouds, of which none has been asked yet.
+    pub fn copy(&self) -> Result<MemFleet, Fail> {
         let order = all_clouds(self.alloc, &self.clouds)?;
         arranged(self.alloc, &self.clouds, &self.keys, order.as_slice())
     }

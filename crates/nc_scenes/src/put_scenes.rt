@@ -4,7 +4,7 @@ use crate::player::play;
 use std::test::Fail;
 
 #[test]
-fn put_scenes(rt: HostRuntime) -> Result<(), Fail> {
+fn an_input_or_output_that_fails_is_told(rt: HostRuntime) -> Result<(), Fail> {
     play(
         &rt,
         r#"
@@ -30,7 +30,15 @@ fn put_scenes(rt: HostRuntime) -> Result<(), Fail> {
         put a < "abcdefgh" -> 9 WriteFault = "gener"
         objects 48
         get a -> 0 Ok = "abcdefgh"
+        "#,
+    )
+}
 
+#[test]
+fn what_is_no_metadata_in_slot_0_goes(rt: HostRuntime) -> Result<(), Fail> {
+    play(
+        &rt,
+        r#"
         # what is no metadata in slot 0 has no generation, and goes
         clouds 4
         raw 3 m-61-0 mixed:0
@@ -53,7 +61,15 @@ fn put_scenes(rt: HostRuntime) -> Result<(), Fail> {
         objects 48
         size 3 m-5a-1 404
         get Z -> 0 Ok = "abcdefgh"
+        "#,
+    )
+}
 
+#[test]
+fn what_is_no_metadata_in_slot_1_goes(rt: HostRuntime) -> Result<(), Fail> {
+    play(
+        &rt,
+        r#"
         # what is no metadata in slot 1 has no generation
         clouds 4
         raw 3 m-61-1 mixed:0
@@ -76,7 +92,15 @@ fn put_scenes(rt: HostRuntime) -> Result<(), Fail> {
         objects 48
         size 3 m-5a-1 404
         get Z -> 0 Ok = "abcdefgh"
+        "#,
+    )
+}
 
+#[test]
+fn a_failing_cloud_ends_a_put(rt: HostRuntime) -> Result<(), Fail> {
+    play(
+        &rt,
+        r#"
         # a failing cloud ends the put: the least of the first step in which one fails is named
         clouds 4
         # the rounds that look
@@ -102,7 +126,15 @@ fn put_scenes(rt: HostRuntime) -> Result<(), Fail> {
         failing 8 2: put a < "abcdefgh" -> 4 Vault(Cloud(1)) leaving 0 0 0 0
         failing 8 9: put a < "abcdefgh" -> 4 Vault(Cloud(3)) leaving 0 0 0 0
         failing 13 12: put a < "abcdefgh" -> 4 Vault(Cloud(3)) leaving 3 4 3 4
+        "#,
+    )
+}
 
+#[test]
+fn a_failing_cloud_ends_a_put_over_a_file(rt: HostRuntime) -> Result<(), Fail> {
+    play(
+        &rt,
+        r#"
         # a failing cloud ends a put over a file too, here with cloud 1 emptied
         clouds 4
         put a < "abcdefgh" -> 0 Ok = generation:1

@@ -155,7 +155,9 @@ fn status_by(reply: Reply) -> Status {
             witnessed: _,
         } => Status::Ok,
         Reply::Repaired { files: _ } => Status::Ok,
+        Reply::Restored { objects: _ } => Status::Ok,
         Reply::Settled { names: _ } => Status::Ok,
+        Reply::Damage(_) => Status::Ok,
     }
 }
 

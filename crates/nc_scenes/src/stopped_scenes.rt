@@ -4,7 +4,7 @@ use crate::player::play;
 use std::test::Fail;
 
 #[test]
-fn stopped_scenes(rt: HostRuntime) -> Result<(), Fail> {
+fn a_first_put_that_stopped_left_a_file_or_none(rt: HostRuntime) -> Result<(), Fail> {
     play(
         &rt,
         r#"
@@ -36,7 +36,15 @@ fn stopped_scenes(rt: HostRuntime) -> Result<(), Fail> {
         get a -> 3 Vault(NoFile)
         put a < "abc" -> 0 Ok = generation:1
         get a -> 0 Ok = "abc"
+        "#,
+    )
+}
 
+#[test]
+fn a_put_that_failed_in_its_metadata_left_a_file(rt: HostRuntime) -> Result<(), Fail> {
+    play(
+        &rt,
+        r#"
         # a put of which a cloud fails for its metadata left a file
         clouds 4
         entry 19 fails leaving broken
@@ -47,6 +55,25 @@ fn stopped_scenes(rt: HostRuntime) -> Result<(), Fail> {
         objects 12
         get a -> 0 Ok = "abc"
 
+        # a second put of which a cloud fails for its metadata left the second file
+        clouds 4
+        put a < "old" -> 0 Ok = generation:1
+        entry 19 fails leaving old
+        put a < "new!" -> 4 Vault(Cloud(2))
+        objects 23
+        get a -> 0 Ok = "new!"
+        put a < "x" -> 0 Ok = generation:3
+        objects 12
+        get a -> 0 Ok = "x"
+        "#,
+    )
+}
+
+#[test]
+fn a_second_put_that_stopped_left_one_of_the_files(rt: HostRuntime) -> Result<(), Fail> {
+    play(
+        &rt,
+        r#"
         # a second put that stopped in its chunks left the first file
         clouds 4
         put a < "old" -> 0 Ok = generation:1
@@ -79,18 +106,15 @@ fn stopped_scenes(rt: HostRuntime) -> Result<(), Fail> {
         put a < "x" -> 0 Ok = generation:2
         objects 12
         get a -> 0 Ok = "x"
+        "#,
+    )
+}
 
-        # a second put of which a cloud fails for its metadata left the second file
-        clouds 4
-        put a < "old" -> 0 Ok = generation:1
-        entry 19 fails leaving old
-        put a < "new!" -> 4 Vault(Cloud(2))
-        objects 23
-        get a -> 0 Ok = "new!"
-        put a < "x" -> 0 Ok = generation:3
-        objects 12
-        get a -> 0 Ok = "x"
-
+#[test]
+fn a_third_put_that_stopped_left_the_second_file(rt: HostRuntime) -> Result<(), Fail> {
+    play(
+        &rt,
+        r#"
         # a put that stopped in writing the metadata before left the file that these are of
         clouds 4
         put a < "old" -> 0 Ok = generation:1

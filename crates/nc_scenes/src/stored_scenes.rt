@@ -5,7 +5,7 @@ use crate::player::play;
 use std::test::Fail;
 
 #[test]
-fn stored_scenes(rt: HostRuntime) -> Result<(), Fail> {
+fn eight_bytes_on_four_clouds(rt: HostRuntime) -> Result<(), Fail> {
     play(
         &rt,
         r#"
@@ -28,7 +28,25 @@ fn stored_scenes(rt: HostRuntime) -> Result<(), Fail> {
         digest 2 m-61-1 aa43060398d2d20e3ea7f8ab5100002074aa07afd252d31b2e34e0108ed25ac4
         digest 3 m-61-1 c7495962d1321312faf881f8c8a3ca4ad6c27ab09f8bd214f730b40e1b540834
 
-        # three bytes over these eight, of which nothing is left
+        # an input that gives a byte a call
+        clouds 4
+        reads up to 1
+        put a < "abcdefgh" -> 0 Ok = generation:1
+        objects 12
+        payloads c-61-0-0 442a 8bdc d47e 8f39
+        payloads c-61-0-1 c758 d759 8521 a7fd
+        "#,
+    )
+}
+
+#[test]
+fn three_bytes_over_eight_and_one_over_three(rt: HostRuntime) -> Result<(), Fail> {
+    play(
+        &rt,
+        r#"
+        # three bytes over eight, of which nothing is left
+        clouds 4
+        put a < "abcdefgh" -> 0 Ok = generation:1
         put a < "abc" -> 0 Ok = generation:2
         objects 12
         payloads c-61-1-0 c8 60 98 18
@@ -47,15 +65,15 @@ fn stored_scenes(rt: HostRuntime) -> Result<(), Fail> {
         digest 1 m-61-1 4592af609588cc18ba12c7d9ed51c0e5f0385f0adcc4e4d26c84908de0a9fac9
         digest 2 m-61-1 02aca0da68ae9d2f6c82e7a9b2ac824fe741bed253458c59a0df7ebfc0917390
         digest 3 m-61-1 7ca9d711bb723657055b20b92178f258388276447d52726b38b8f2552b0ad33e
+        "#,
+    )
+}
 
-        # an input that gives a byte a call
-        clouds 4
-        reads up to 1
-        put a < "abcdefgh" -> 0 Ok = generation:1
-        objects 12
-        payloads c-61-0-0 442a 8bdc d47e 8f39
-        payloads c-61-0-1 c758 d759 8521 a7fd
-
+#[test]
+fn no_byte_on_four_clouds_and_one_on_ten(rt: HostRuntime) -> Result<(), Fail> {
+    play(
+        &rt,
+        r#"
         # the empty file has empty chunks, marked with the digest of no bytes
         clouds 4
         put a -> 0 Ok = generation:1

@@ -4,7 +4,7 @@ use crate::player::play;
 use std::test::Fail;
 
 #[test]
-fn word_scenes(rt: HostRuntime) -> Result<(), Fail> {
+fn words_that_are_no_command(rt: HostRuntime) -> Result<(), Fail> {
     play(
         &rt,
         r#"
@@ -35,7 +35,15 @@ fn word_scenes(rt: HostRuntime) -> Result<(), Fail> {
         refused: get a¶b -> 2 Name(Control { at: 1 })
         refused: put aaaaaaaaaaaaaaaaaaaaaaaaaaaaaaaaaaaaaaaaaaaaaaaaaaaaaaaaaaaaaaaaaaaaaaaaaaaaaaaaaaaaaaaaaaaaaaaaaaaaa -> 2 Name(Long { len: 101 })
         refused: get aaaaaaaaaaaaaaaaaaaaaaaaaaaaaaaaaaaaaaaaaaaaaaaaaaaaaaaaaaaaaaaaaaaaaaaaaaaaaaaaaaaaaaaaaaaaaaaaaaaaa -> 2 Name(Long { len: 101 })
+        "#,
+    )
+}
 
+#[test]
+fn widths_that_are_none(rt: HostRuntime) -> Result<(), Fail> {
+    play(
+        &rt,
+        r#"
         # no cloud
         clouds 0
         refused: put a -> 2 Width(0)

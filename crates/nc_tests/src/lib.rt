@@ -1,5 +1,5 @@
-//! Tests of the crates that look for files, settle, write, repair and restore them, over clouds in memory. They stand apart, so that
-//! the tested crates aren't proved once more with them.
+//! Tests of the crates that look for files, settle, write, repair, restore and scrub them, over clouds in memory.
+//! They stand apart, so that the tested crates aren't proved once more with them.
 #![tactic(auto)]
 
 #[cfg(test)]
@@ -10,6 +10,8 @@ mod look_tests;
 mod repair_tests;
 #[cfg(test)]
 mod restore_tests;
+#[cfg(test)]
+mod scrub_tests;
 #[cfg(test)]
 mod settle_tests;
 #[cfg(test)]
