@@ -1,6 +1,6 @@
 #!/usr/bin/env bash
-# Times `put` and `get` of 64 MiB and of a byte on 4 and on 10 folders and `repair` of 64 MiB, beside other programs, in turn.
-# bench/README.md says what it means.
+# Times `put` and `get` of 64 MiB and of a byte on 4 and on 10 folders, and `repair`, `restore` and `scrub` of 64 MiB, beside
+# other programs, in turn. bench/README.md says what it means.
 set -eu
 cd "$(dirname "$0")/.."
 program=$PWD/crates/nccloud/out/nccloud
@@ -18,9 +18,12 @@ with open(byte, "wb") as sink:
     sink.write(b"x")
 folders = {width: [f"{scratch}/of{width}/cloud{number}" for number in range(width)] for width in (4, 10)}
 lost = [f"{scratch}/lost{number}" for number in range(2)]
-# vaults that hold the file alone, and have lost cloud 0
-repaired, again = ({width: [f"{scratch}/{use}{width}/cloud{number}" for number in range(width)] for width in (4, 10)} for use in ("repaired", "again"))
-damaged = [repaired[4], repaired[10], again[4], again[10]]
+# vaults that hold the file alone, by use and width, and how many clouds they have lost, the first ones
+losses = {"repaired": 1, "again": 1, "restored": 1, "twice": 2}
+damaged = {
+    (use, width): [f"{scratch}/{use}{width}/cloud{number}" for number in range(width)]
+    for use in losses for width in (4, 10)
+}
 
 
 def empty(folder):
@@ -29,13 +32,22 @@ def empty(folder):
 
 
 def prepare():
-    """All folders that the commands write to are there, and empty but for the vaults that have lost cloud 0."""
-    for folder in [others, *lost, *folders[4], *folders[10], *sum(damaged, [])]:
+    """All folders that the commands write to are there, and empty but for the damaged vaults."""
+    for folder in [others, *lost, *folders[4], *folders[10], *sum(damaged.values(), [])]:
         empty(folder)
-    for clouds in damaged:
+    for (use, _), clouds in damaged.items():
         with open(file, "rb") as source:
             subprocess.run([program, ",".join(clouds), "put", "file"], stdin=source, stdout=subprocess.DEVNULL, check=True)
-        empty(clouds[0])
+        for folder in clouds[:losses[use]]:
+            empty(folder)
+
+
+def repeated(name, length):
+    """A file of so many bytes: the file, over and over."""
+    with open(file, "rb") as source, open(f"{scratch}/{name}", "wb") as sink:
+        given = source.read()
+        sink.write((given * (length // size + 1))[:length])
+    return f"{scratch}/{name}"
 
 
 # what is timed, by name: the words, and the input
@@ -49,12 +61,15 @@ for width in (4, 10):
     commands[f"get, two of {width} clouds lost"] = ([program, left, "get", "file"], file)
 get_and_put = '"$0" "$1" get file >"$2" && "$0" "$1" put file <"$2"'
 for width in (4, 10):
-    read_by_repair = f"{scratch}/read{width}"
-    shutil.copyfile(file, read_by_repair)
-    os.truncate(read_by_repair, (width - 1) * -(-size // (2 * (width - 2))))
-    commands[f"repair, {width} clouds"] = ([program, ",".join(repaired[width]), "repair", "0"], byte)
-    commands[f"get and put again, {width} clouds"] = (["sh", "-c", get_and_put, program, ",".join(again[width]), others + "/back"], byte)
-    commands[f"sha256sum of what a repair reads, {width} clouds"] = (["sha256sum"], read_by_repair)
+    of = {use: ",".join(damaged[use, width]) for use in losses}
+    chunk = -(-size // (2 * (width - 2)))
+    commands[f"repair, {width} clouds"] = ([program, of["repaired"], "repair", "0"], byte)
+    commands[f"restore of one, {width} clouds"] = ([program, of["restored"], "restore", "0"], byte)
+    commands[f"restore of two, {width} clouds"] = ([program, of["twice"], "restore", "0", "1"], byte)
+    commands[f"get and put again, {width} clouds"] = (["sh", "-c", get_and_put, program, of["again"], others + "/back"], byte)
+    commands[f"sha256sum of what a repair reads, {width} clouds"] = (["sha256sum"], repeated(f"repair{width}", (width - 1) * chunk))
+    commands[f"scrub, {width} clouds"] = ([program, of["restored"], "scrub"], byte)  # once this vault is whole
+    commands[f"sha256sum of what a scrub reads, {width} clouds"] = (["sha256sum"], repeated(f"scrub{width}", 2 * width * chunk))
 commands["sha256sum"] = (["sha256sum"], file)
 commands["cp"] = (["cp", file, others + "/cp"], file)
 commands["cp and sync"] = (["sh", "-c", 'cp "$0" "$1" && sync "$1"', file, others + "/synced"], file)
