@@ -1,2 +1,14 @@
+pub mod Arguments
+pub mod Asking
+pub mod Chosen
+pub mod DigitLaws
+pub mod LineLaws
+pub mod LinePuts
+pub mod LineTexts
 pub mod Numerals
 pub mod OneMeaning
+pub mod Parsed
+pub mod PlainWords
+pub mod SendLaws
+pub mod Spaces
+pub mod Spelling

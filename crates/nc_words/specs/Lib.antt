@@ -1,4 +1,12 @@
 pub mod Acts
+pub mod CommandLine
+pub mod LineParts
+pub mod Lines
+pub mod Matched
 pub mod Numbers
+pub mod Options
+pub mod Plain
+pub mod Sending
 pub mod Settings
+pub mod Texts
 pub mod Words

@@ -29,6 +29,10 @@ pub enum Act {
 pub enum Command {
     /// One act.
     Act(Act),
+    /// The acts of all lines of the input, one after the other.
+    Batch,
+    /// A mill of this number.
+    Mill(u64),
 }
 
 /// What a run is asked for.

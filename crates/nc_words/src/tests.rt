@@ -1,93 +1,213 @@
-//! What words ask for.
+//! What words and lines ask for.
 
-use crate::{Act, Command, Request, WordFault, read_words};
+use crate::{Act, Command, LineFault, Request, WordFault, read_line, read_words};
 use nc_name::NameFault;
 use std::alloc::Global;
 use std::test::Fail;
 
 #[test]
-fn words_ask_for_an_act_or_nothing(rt: HostRuntime) -> Result<(), Fail> {
+fn words_ask_for_a_command_or_nothing(rt: HostRuntime) -> Result<(), Fail> {
     let alloc = rt.alloc();
-    for (line, want) in [
-        ("put a", "Put"),
-        ("get b c", "Usage"),
-        ("get b", "Get"),
-        ("rm recover", "Remove"),
-        ("stat ls", "Stat"),
-        ("ls", "List"),
-        ("ls a", "Usage"),
-        ("recover", "Recover"),
-        ("recover a", "Usage"),
-        ("repair 1", "Repair"),
-        ("repair", "Usage"),
-        ("repair 1 2", "Usage"),
-        ("repair recover", "Usage"),
-        ("restore 1", "Restore"),
-        ("restore 1 2", "Restore"),
-        ("restore", "Usage"),
-        ("restore 1 2 3", "Usage"),
-        ("put 1 2", "Usage"),
-        ("scrub", "Scrub"),
-        ("scrub 1", "Usage"),
-        ("put", "Usage"),
-        ("PUT a", "Usage"),
-        ("", "Usage"),
-        ("put ", "Empty"),
-        ("get a\tb", "Control"),
-        ("remove \t", "Usage"),
-    ] {
+    let rows = "
+        |put a = put
+        |get b = get
+        |get b c = usage
+        |rm recover = rm
+        |stat ls = stat
+        |ls = ls
+        |ls a = usage
+        |recover = recover
+        |recover a = usage
+        |repair = usage
+        |repair 1 2 = usage
+        |repair recover = usage
+        |restore = usage
+        |restore 1 2 3 = usage
+        |put 1 2 = usage
+        |scrub = scrub
+        |scrub 1 = usage
+        |batch = batch
+        |batch x = usage
+        |mill 7 = mill
+        |mill = usage
+        |put = usage
+        |PUT a = usage
+        | = usage
+        |put  = empty
+        |get a\tb = control
+        |remove \t = usage
+        |--budget 8 ls = ls
+        |--budget=8 ls = ls
+        |ls --budget 8 = ls
+        |restore 1 --budget 3 2 = restore
+        |--budget 8 --budget 8 ls = usage
+        |--budget=8 ls --budget=8 = usage
+        |--budget ls = usage
+        |--seed = usage
+        |ls --seed = usage
+        |ls --seed= = usage
+        |--depth 3 ls = usage
+        |-x = usage
+        |-h = usage
+        |--help = usage
+        |ls --help = usage
+        |-b 8 ls = usage
+        |put -x = usage
+        |put -- -x = put
+        |-- put -x = put
+        |put - = put
+        |- = usage
+        |ls -- = ls
+        |ls -- --budget=8 = usage
+        |--budget 8 -- put --budget = put
+        |--budget 8 = usage
+        |--seed 0 put a\tb = usage
+        |--budget 0 put  = usage
+        |--budget 1 put  = empty
+    ";
+    for row in rows.lines() {
+        let Some((line, want)) = parts_of(row) else {
+            continue;
+        };
         let words = split(alloc, line)?;
-        assert_eq!(rt; asked(read_words(words.as_slice(), 4)), want, "{line}");
+        assert_eq!(rt;
+            asked(read_words(alloc, words.as_slice(), 4)),
+            want,
+            "{row}"
+        );
     }
-    assert_eq!(rt; asked(read_words(&[], 4)), "Usage");
+    assert_eq!(rt; asked(read_words(alloc, &[], 4)), "usage");
     Ok(())
 }
 
 #[test]
-fn a_repair_is_of_a_cloud_by_its_number(rt: HostRuntime) -> Result<(), Fail> {
+fn numbers_and_seeds_are_in_their_ranges(rt: HostRuntime) -> Result<(), Fail> {
     let alloc = rt.alloc();
-    for (text, want) in [
-        ("0", Some(0)),
-        ("3", Some(3)),
-        ("03", Some(3)),
-        ("00000000000000000003", Some(3)),
-        ("000000000000000000003", None),
-        ("18446744073709551616", None),
-        ("4", None),
-        ("260", None),
-        ("+1", None),
-        ("-1", None),
-        ("1 ", None),
-        ("", None),
-    ] {
-        let words = [
-            String::from_str(alloc, "repair")?,
-            String::from_str(alloc, text)?,
-        ];
-        assert_eq!(rt; cloud_of(read_words(&words, 4)), want, "{text}");
+    let rows = "
+        |ls = 64 1
+        |--budget 1 --workers 16 ls = 1 16
+        |--budget=4096 ls = 4096 1
+        |--budget 0064 ls --workers 02 = 64 2
+        |--budget 0 ls = none
+        |--budget 4097 ls = none
+        |--budget 65537 ls = none
+        |--budget +8 ls = none
+        |--budget=-8 ls = none
+        |--budget= ls = none
+        |--workers 0 ls = none
+        |--workers 17 ls = none
+        |--workers 257 ls = none
+        |repair 0 = 0 0
+        |repair 3 = 3 0
+        |repair 03 = 3 0
+        |repair 00000000000000000003 = 3 0
+        |repair 000000000000000000003 = none
+        |repair 18446744073709551616 = none
+        |repair 4 = none
+        |repair 260 = none
+        |repair +1 = none
+        |repair -1 = none
+        |repair  = none
+        |restore 3 = 3 255
+        |restore 0 3 = 0 3
+        |restore 03 00 = 3 0
+        |restore 1 --budget 3 2 = 1 2
+        |restore 4 = none
+        |restore 4 1 = none
+        |restore 1 4 = none
+        |restore 1 1 = none
+        |restore 1 01 = none
+        |restore 1  = none
+        |restore 1 +2 = none
+        |mill 18446744073709551615 = 18446744073709551615 0
+        |mill 18446744073709551616 = none
+        |mill +7 = none
+        |--seed=00112233445566778899aabbccddeeffFFEEDDCCBBAA99887766554433221100 batch = 17 255
+        |batch --seed 01122233445566778899aabbccddeeffFFEEDDCCBBAA99887766554433221100 = 18 255
+        |--seed 0112233445566778899aabbccddeeffFFEEDDCCBBAA99887766554433221100 batch = none
+        |--seed 000112233445566778899aabbccddeeffFFEEDDCCBBAA99887766554433221100 batch = none
+        |--seed 0 batch = none
+        |--seed 0x112233445566778899aabbccddeeffFFEEDDCCBBAA99887766554433221100 batch = none
+        |--seed 00112233445566778899aabbccddeeffFFEEDDCCBBAA9988776655443322110g batch = none
+    ";
+    for row in rows.lines() {
+        let Some((line, want)) = parts_of(row) else {
+            continue;
+        };
+        let words = split(alloc, line)?;
+        let told = match numbers(read_words(alloc, words.as_slice(), 4)) {
+            Some((first, second)) => format!(in alloc; "{first} {second}")?,
+            None => String::from_str(alloc, "none")?,
+        };
+        assert_eq!(rt; told.as_str(), want, "{row}");
     }
     Ok(())
 }
 
 #[test]
-fn a_restore_is_of_one_cloud_or_of_two_that_differ(rt: HostRuntime) -> Result<(), Fail> {
+fn a_line_asks_for_an_act_or_nothing(rt: HostRuntime) -> Result<(), Fail> {
     let alloc = rt.alloc();
-    for (line, want) in [
-        ("restore 3", Some((3, None))),
-        ("restore 0 3", Some((0, Some(3)))),
-        ("restore 03 00", Some((3, Some(0)))),
-        ("restore 4", None),
-        ("restore 4 1", None),
-        ("restore 1 4", None),
-        ("restore 1 1", None),
-        ("restore 1 01", None),
-        ("restore 1 ", None),
-        ("restore 1 +2", None),
-    ] {
-        let words = split(alloc, line)?;
-        assert_eq!(rt; restored(read_words(words.as_slice(), 4)), want, "{line}");
+    let rows = "
+        |put a 6162 = put 2
+        |put a b Ff00fF = put 3
+        |put a b - = put 0
+        |put - - = put 0
+        |put -x - = put 0
+        |put a  - = put 0
+        |put a 6 = outside 0
+        |put a 616 = outside 0
+        |put a 6x = outside 0
+        |put a  = outside 0
+        |put a b = outside 0
+        |put a = outside 0
+        |put  - = outside 0
+        |put - = outside 0
+        |put a\tb - = outside 0
+        |PUT a - = outside 0
+        | put a - = outside 0
+        | = outside 0
+        |  = outside 0
+        |get a b = get 0
+        |get  a  = get 0
+        |get -- = get 0
+        |get  = outside 0
+        |get = outside 0
+        |rm a = rm 0
+        |stat a = stat 0
+        |ls = ls 0
+        |ls  = outside 0
+        |ls --budget=8 = outside 0
+        |scrub = scrub 0
+        |recover = recover 0
+        |repair 3 = repair 0
+        |repair 4 = outside 0
+        |repair 3  = outside 0
+        |restore 0 = restore 0
+        |restore 0 01 = restore 0
+        |restore 0 0 = outside 0
+        |restore 0  1 = outside 0
+        |restore 0 1 2 = outside 0
+        |restore 0  = outside 0
+        |mill 7 = outside 0
+        |batch = outside 0
+    ";
+    for row in rows.lines() {
+        let Some((line, want)) = parts_of(row) else {
+            continue;
+        };
+        let (word, count) = line_of(alloc, line.as_bytes());
+        let told = format!(in alloc; "{word} {count}")?;
+        assert_eq!(rt; told.as_str(), want, "{row}");
     }
+    assert_eq!(rt; line_of(alloc, b"get \xFF"), ("outside", 0));
+    assert_eq!(rt; line_of(alloc, b"put a\x80 -"), ("outside", 0));
     Ok(())
+}
+
+/// What is read in a row, after its bar, and what is wanted of it.
+fn parts_of(row: &str) -> Option<(&str, &str)> {
+    let (_, parts) = row.split_once('|')?;
+    parts.rsplit_once(" = ")
 }
 
 /// The words of a line, of which one may be empty.
@@ -99,47 +219,64 @@ fn split(alloc: Global, line: &str) -> Result<Vec<String>, Fail> {
     Ok(words)
 }
 
-/// The cloud of a repair, or none at a fault of usage.
-fn cloud_of(read: Result<Request, WordFault>) -> Option<u8> {
-    match read {
-        Ok(request) => match request.command {
-            Command::Act(Act::Repair(cloud)) => Some(cloud),
-            Command::Act(_) => Some(255),
-        },
-        Err(WordFault::Usage) => None,
-        Err(WordFault::Name(_)) => Some(255),
-    }
-}
-
-/// The clouds of a restore, or none at a fault of usage.
-fn restored(read: Result<Request, WordFault>) -> Option<(u8, Option<u8>)> {
-    match read {
-        Ok(request) => match request.command {
-            Command::Act(Act::Restore { first, second }) => Some((first, second)),
-            Command::Act(_) => Some((255, None)),
-        },
-        Err(WordFault::Usage) => None,
-        Err(WordFault::Name(_)) => Some((255, None)),
-    }
-}
-
 /// What was read, in a word.
 fn asked(read: Result<Request, WordFault>) -> &'static str {
     match read {
         Ok(request) => match request.command {
-            Command::Act(Act::Put(_)) => "Put",
-            Command::Act(Act::Get(_)) => "Get",
-            Command::Act(Act::Remove(_)) => "Remove",
-            Command::Act(Act::List) => "List",
-            Command::Act(Act::Stat(_)) => "Stat",
-            Command::Act(Act::Repair(_)) => "Repair",
-            Command::Act(Act::Restore { .. }) => "Restore",
-            Command::Act(Act::Scrub) => "Scrub",
-            Command::Act(Act::Recover) => "Recover",
+            Command::Act(act) => act_word(&act),
+            Command::Batch => "batch",
+            Command::Mill(_) => "mill",
         },
-        Err(WordFault::Usage) => "Usage",
-        Err(WordFault::Name(NameFault::Empty)) => "Empty",
-        Err(WordFault::Name(NameFault::Long { .. })) => "Long",
-        Err(WordFault::Name(NameFault::Control { .. })) => "Control",
+        Err(WordFault::Usage) => "usage",
+        Err(WordFault::Name(NameFault::Empty)) => "empty",
+        Err(WordFault::Name(NameFault::Long { .. })) => "long",
+        Err(WordFault::Name(NameFault::Control { .. })) => "control",
+        Err(WordFault::Memory) => "memory",
+    }
+}
+
+/// What a line was read as, in a word, and how many bytes it stores.
+fn line_of(alloc: Global, line: &[u8]) -> (&'static str, usize) {
+    match read_line(alloc, line, 4) {
+        Ok(read) => (act_word(&read.act), read.bytes.bytes().len()),
+        Err(LineFault::Outside) => ("outside", 0),
+        Err(LineFault::Memory) => ("memory", 0),
+    }
+}
+
+fn act_word(act: &Act) -> &'static str {
+    match *act {
+        Act::Put(_) => "put",
+        Act::Get(_) => "get",
+        Act::Remove(_) => "rm",
+        Act::List => "ls",
+        Act::Stat(_) => "stat",
+        Act::Repair(_) => "repair",
+        Act::Restore { .. } => "restore",
+        Act::Scrub => "scrub",
+        Act::Recover => "recover",
+    }
+}
+
+/// The numbers of a command that has some, where 255 stands for a second cloud that isn't named. Of a batch two bytes of
+/// the seed, of others the numbers of the options.
+fn numbers(read: Result<Request, WordFault>) -> Option<(u64, u64)> {
+    match read {
+        Ok(request) => match request.command {
+            Command::Act(Act::Repair(cloud)) => Some((u64::from(cloud), 0)),
+            Command::Act(Act::Restore { first, second }) => {
+                Some((u64::from(first), u64::from(second.unwrap_or(255))))
+            },
+            Command::Mill(number) => Some((number, 0)),
+            Command::Batch => {
+                let seed = request.setting.seed;
+                Some((u64::from(seed[1]), u64::from(seed[16])))
+            },
+            _ => Some((
+                u64::from(request.setting.budget),
+                u64::from(request.setting.workers),
+            )),
+        },
+        Err(_) => None,
     }
 }

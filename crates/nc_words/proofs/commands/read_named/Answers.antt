@@ -1,8 +1,8 @@
 use Rattle.std.proofs.Common.{rules, refl, ap, ◌∷◌, [], List, ℕ}
 use Rattle.nc_words.specs.declared.act.Act.TheVariants as act
 use Rattle.nc_words.proofs.OneMeaning.{bad_name}
-use Rattle.nc_words.proofs.words.read_pair.Goals.{in-put, in-get, in-rm, in-stat}
-use Rattle.nc_words.proofs.words.read_pair.Goals as goal
+use Rattle.nc_words.proofs.commands.read_named.Goals.{in-put, in-get, in-rm, in-stat}
+use Rattle.nc_words.proofs.commands.read_named.Goals as goal
 
 pub returns-in-Err-clause-fault : goal.returns-in-Err-clause-fault
 returns-in-Err-clause-fault c =
