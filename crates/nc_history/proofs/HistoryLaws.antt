@@ -7,7 +7,7 @@ use Rattle.nc_state.specs.Standing.{Entries}
 use Rattle.nc_state.specs.Vaults.{IsVault, Vault}
 use Rattle.nc_words.specs.Acts.{Task}
 use Rattle.nc_vault.specs.Vaults.{Does}
-use Rattle.nc_run.specs.Standing.{BeginsNext, DoesAll}
+use Rattle.nc_history.specs.Runs.{BeginsNext, DoesAll}
 use Rattle.nc_history.specs.Histories.{Happening, HappensTo, HistoryTo}
 use Rattle.nc_history.specs.Histories.Happening.{Ran, Lost}
 use Rattle.nc_history.specs.Values.{GaveLast, IsAllowed, NoneGives, NoneGivesSince, new_value, since, unfinished, with_begun}

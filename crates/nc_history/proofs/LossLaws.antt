@@ -7,7 +7,7 @@ use Rattle.nc_state.proofs.LossLaw.{loss_keeps}
 use Rattle.nc_words.specs.Acts.{Task}
 use Rattle.nc_vault.specs.Vaults.{Begins}
 use Rattle.nc_vault.specs.Vaults.Begins.{not_yet, has_come}
-use Rattle.nc_run.specs.Standing.{BeginsNext, DoesAll}
+use Rattle.nc_history.specs.Runs.{BeginsNext, DoesAll}
 use Rattle.nc_history.specs.Histories.{Bears, Happening, HappensTo, LosesFew, damaged_after}
 use Rattle.nc_history.specs.Histories.Happening.{Ran, Lost}
 use Rattle.nc_history.specs.Laws.{DamageIs, HistoryStands, LossLeads, LossesAreFew, RunLeads}

@@ -7,7 +7,7 @@ use Rattle.nc_state.specs.Standing.{no_entry}
 use Rattle.nc_state.specs.Vaults.{IsVault, Vault}
 use Rattle.nc_words.specs.Acts.{Task}
 use Rattle.nc_vault.specs.Vaults.{still_damaged}
-use Rattle.nc_run.specs.Standing.{BeginsNext, DoesAll}
+use Rattle.nc_history.specs.Runs.{BeginsNext, DoesAll}
 
 -- A run does some acts and may begin another, at which it is stopped or ends; or a cloud is lost.
 pub data Happening : Type 0 where

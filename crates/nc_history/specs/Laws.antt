@@ -11,7 +11,7 @@ use Rattle.nc_download.specs.declared.short.Bad.{Bad}
 use Rattle.nc_vault.specs.declared.fault.Fault.{Fault}
 use Rattle.nc_vault.specs.declared.fault.Fault.TheVariants as fault
 use Rattle.nc_vault.specs.declared.reply.Reply.TheVariants as reply
-use Rattle.nc_run.specs.Standing.{LeadsTo}
+use Rattle.nc_history.specs.Runs.{LeadsTo}
 use Rattle.nc_history.specs.Histories.{Bears, Happening, HappensTo, HistoryTo, LosesFew, StandsHappened, damaged_by, empty_vault}
 use Rattle.nc_history.specs.Histories.Happening.{Ran, Lost}
 use Rattle.nc_history.specs.Repairs.{DoesRepair, FilesAreGood, IsMadeWhole}

@@ -1,4 +1,5 @@
 pub mod Histories
 pub mod Laws
+pub mod Runs
 pub mod Repairs
 pub mod Values
