@@ -1,0 +1,8 @@
+mod Words
+mod SureLaws
+mod NameLaws
+mod ActLaws
+mod PutLaws
+mod LossLaws
+mod GetLaws
+mod MendLaws

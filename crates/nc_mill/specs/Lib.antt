@@ -1,0 +1,4 @@
+pub mod Mills
+pub mod Sures
+pub mod Stages
+pub mod Ends
