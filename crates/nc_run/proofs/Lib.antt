@@ -1,3 +1,9 @@
+pub mod AnswerLaws
+pub mod BatchLaws
 pub mod CourseLaws
-pub mod SendLaws
+pub mod LineLaws
+pub mod MillLaws
+pub mod RunLaws
+pub mod SingleLaws
 pub mod StandLaws
+pub mod TellLaws

@@ -1,5 +1,5 @@
 -- What the acts of a run leave of a vault, from what each of them does.
-use Rattle.std.proofs.Common.{◌≡◌, ◌∙◌, Option, None, Some, IfSome, List, [], ◌∷◌, Ok, ℕ, true, false, refl, sym, ap, subst, inl, inr}
+use Rattle.std.proofs.Common.{◌≡◌, ◌∙◌, Option, None, Some, IfSome, List, [], ◌∷◌, ℕ, true, false, refl, sym, ap, subst}
 use Rattle.nc_cloud.specs.Contents.{Contents}
 use Rattle.nc_cloud.specs.Stopping.{Stops}
 use Rattle.nc_cloud.specs.declared.fleet.Fleet.{Ghosts as FleetGhosts}
@@ -13,22 +13,9 @@ use Rattle.nc_vault.specs.Vaults.{ActKeeps, StandsAtEnd, StandsBegun, StandsDone
 use Rattle.nc_vault.specs.Vaults.Begins.{not_yet}
 use Rattle.nc_vault.specs.declared.reply.Reply.{Reply}
 use Rattle.nc_vault.specs.declared.reply.Reply.TheVariants as reply
-use Rattle.nc_stream.specs.declared.sink.Sink.{Ghosts as SinkGhosts}
-use Rattle.nc_run.specs.declared.status.Status.{Status}
-use Rattle.nc_run.specs.declared.status.Status.TheVariants as st
-use Rattle.nc_stream.specs.declared.source.Source.{Ghosts as SourceGhosts}
-use Rattle.nc_words.specs.declared.act.Act.{Act}
-use Rattle.nc_words.specs.declared.act.Command.{Command}
-use Rattle.nc_words.specs.declared.act.Command.TheVariants as command
-use Rattle.nc_words.specs.declared.act.Request.{Request}
-use Rattle.nc_words.specs.Acts.{task_of}
-use Rattle.nc_run.specs.Course.{Course, Ends, Item, items_by}
-use Rattle.nc_run.specs.Course.Item.{Alone}
-use Rattle.nc_run.specs.Running.{Concludes, Does, Sides, TakesIf, Unread, reads_input}
-use Rattle.nc_run.specs.Standing.{LeadsTo, RunImage, RunStands, task_in, tasks_in, tasks_of}
+use Rattle.nc_history.specs.Runs.{LeadsTo}
+use Rattle.nc_run.specs.Standing.{RunImage, RunStands, task_in, tasks_in, tasks_of}
 use Rattle.nc_run.specs.Turns.{Takes, TakesAll, TakesNext, Turn, is_done}
-use Rattle.nc_run.specs.Watching.{ConcludesShown, CourseShown, DoesShown, RanShown}
-use Rattle.nc_run.specs.declared.watching.Watch.{Ghosts as WatchGhosts}
 
 -- ---- the end of one act
 
@@ -160,57 +147,3 @@ module _ {A : Type 0} (F : FleetGhosts A) (told : F.tells) where
       let here : StandsDone n u.task V (F.held u.after) = done_end n u.task V (F.held u.after) u.answer takes.1 keeps.end in
       leads_more n u.task (tasks_of us) (Some t.task) V (F.held u.after) G here
       (stop_leads n u.after mid us t here.vault G (wide_after n old u wide takes.0) here.contents here.stands takes.2 one only image)
-
--- the act at which a run ended wasn't done
-ends_undone : {A : Type 0} (left : List Item) (done : List (Turn A)) (next : Option (Turn A)) (status : Status) → Ends left done next status → IfSome next (λ t. is_done t.answer ≡ false)
-ends_undone left done None status ends = tt
-ends_undone left done (Some t) status ends = ends.0
-
-pub course_stands : {A C : Type 0} (F : FleetGhosts A) (K : SinkGhosts C) (items : List Item) (old new : A) (out out_new : C) (status : Status)
-    → (course : Course F K items old new out out_new status) → F.tells → ForEachVault (F.clouds old) (F.held old) (RunStands F (F.clouds old) course.done course.next old new)
-course_stands F K items old new out out_new status course told = record {
-  each = λ S D stands.
-      run_stands F told (F.clouds old) old course.middle new course.done course.next (record { contents = F.held old; entries = S; damaged = D }) refl refl stands
-      course.takes_all course.takes_next (ends_undone course.left course.done course.next status course.ends);
-}
-
--- a run whose input was taken, and what its watcher knows
-pub ran : {A B C W : Type 0} (F : FleetGhosts A) (S : SourceGhosts B) (K : SinkGhosts C) (V : WatchGhosts W A) (request : Request) (a : Act) (old new : Sides A B C) (start end : W) (status : Status)
-    (input bytes : List ℕ) → request.command ≡ command.Act a → bytes ≡ input → TakesIf (reads_input request.command) S old.source new.source (Ok input)
-    → CourseShown F K V (Alone (task_of request.setting a bytes) ∷ []) old.fleet new.fleet old.out new.out start end status → RanShown F S K V request old new start end status
-ran F S K V request a old new start end status input bytes is same takes shown =
-    let items : List Item = items_by request.setting request.command input in
-    let all : CourseShown F K V items old.fleet new.fleet old.out new.out start end status =
-    subst (λ (c : Command). CourseShown F K V (items_by request.setting c input) old.fleet new.fleet old.out new.out start end status) (sym is)
-    (subst (λ (b : List ℕ). CourseShown F K V (Alone (task_of request.setting a b) ∷ []) old.fleet new.fleet old.out new.out start end status) same shown) in
-    record {
-      does = inr (record {
-        input = input;
-        takes = takes;
-        course = all.course;
-        stands = course_stands F K items old.fleet new.fleet old.out new.out status all.course;
-      });
-      watched = all.watched;
-    }
-
--- a run whose input wasn't read
-pub unread_shown : {A B C W : Type 0} (F : FleetGhosts A) (S : SourceGhosts B) (K : SinkGhosts C) (V : WatchGhosts W A) (request : Request) (old new : Sides A B C) (watch : W) (status : Status)
-    → Unread S request.command old new status → RanShown F S K V request old new watch watch status
-unread_shown F S K V request old new watch status unread = record { does = inl unread; watched = refl }
-
--- ---- a run, its watcher aside
-
-does : {A B C W : Type 0} (F : FleetGhosts A) (S : SourceGhosts B) (K : SinkGhosts C) (V : WatchGhosts W A) (words : List (List ℕ)) (old new : Sides A B C) (start end : W) (status : Status)
-    → DoesShown F S K V words old new start end status → Does F S K words old new status
-does F S K V words old new start end status d = record { wide = d.wide; request = d.request; asks = d.asks; does = d.shown.does }
-
-pub concludes : {A B C W : Type 0} (F : FleetGhosts A) (S : SourceGhosts B) (K : SinkGhosts C) (V : WatchGhosts W A) (words : List (List ℕ)) (old new : Sides A B C) (start end : W) (status : Status)
-    → ConcludesShown F S K V words old new start end status → Concludes F S K words old new status
-concludes F S K V words old new start end st.Ok d = does F S K V words old new start end st.Ok d
-concludes F S K V words old new start end (st.Width w) d = tt
-concludes F S K V words old new start end st.Usage d = tt
-concludes F S K V words old new start end (st.Name cause) d = tt
-concludes F S K V words old new start end st.TooLong d = does F S K V words old new start end st.TooLong d
-concludes F S K V words old new start end st.ReadFault d = does F S K V words old new start end st.ReadFault d
-concludes F S K V words old new start end st.WriteFault d = does F S K V words old new start end st.WriteFault d
-concludes F S K V words old new start end (st.Vault fault) d = does F S K V words old new start end (st.Vault fault) d

@@ -3,7 +3,7 @@ use Rattle.std.specs.Prelude.{ℕ}
 use Rattle.nc_vault.specs.declared.fault.Fault.{Fault}
 use Rattle.nc_vault.specs.declared.fault.Fault.TheVariants as fault
 use Rattle.nc_run.specs.declared.status.Status.{Status}
-use Rattle.nc_run.specs.declared.status.Status.TheVariants.{Ok, Width, Usage, Name, TooLong, ReadFault, WriteFault, Vault}
+use Rattle.nc_run.specs.declared.status.Status.TheVariants.{Ok, Width, Usage, Name, BatchLine, TooLong, ReadFault, WriteFault, Vault}
 
 abbrev pub fault_code : Fault → ℕ
 fault_code fault.Memory = 1
@@ -23,6 +23,7 @@ exit_code Ok = 0
 exit_code (Width w) = 2
 exit_code Usage = 2
 exit_code (Name f) = 2
+exit_code (BatchLine k) = 2
 exit_code TooLong = 7
 exit_code ReadFault = 8
 exit_code WriteFault = 9

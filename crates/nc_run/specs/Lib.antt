@@ -1,9 +1,13 @@
 pub mod Codes
 pub mod Course
 pub mod Ending
+pub mod Items
+pub mod Milling
 pub mod Running
-pub mod Sending
+pub mod Sides
 pub mod Standing
+pub mod Telling
 pub mod Texts
+pub mod Turning
 pub mod Turns
 pub mod Watching

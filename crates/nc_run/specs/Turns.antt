@@ -37,12 +37,7 @@ abbrev pub TakesNext : {A : Type 0} → FleetGhosts A → A → Option (Turn A) 
 TakesNext F old None new = new ≡ old
 TakesNext F old (Some t) new = Takes F old t × (new ≡ t.after)
 
--- these acts, and then the next one
-abbrev pub turns_of : {A : Type 0} → List (Turn A) → Option (Turn A) → List (Turn A)
-turns_of done None = done
-turns_of done (Some t) = done ++ t ∷ []
-
--- what they printed
-abbrev pub texts_of : {A : Type 0} → List (Turn A) → List ℕ
-texts_of [] = []
-texts_of (t ∷ ts) = text_of t.answer ++ texts_of ts
+-- what they printed, alone or in a batch
+abbrev pub texts_of : {A : Type 0} → Bool → List (Turn A) → List ℕ
+texts_of batch [] = []
+texts_of batch (t ∷ ts) = text_of batch t.answer ++ texts_of batch ts

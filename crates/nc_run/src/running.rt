@@ -1,26 +1,29 @@
-ghost use Rattle.std.specs.Prelude.{◌≡◌, ◌↔◌, ◌≤◌, ◌^◌, ◌∷◌, [], map, length, string_bytes, IsTrue};
-ghost use Rattle.nc_words.specs.Acts.{FitsWidth, task_of};
+ghost use Rattle.std.specs.Prelude.{◌≡◌, ◌↔◌, ◌≤◌, ◌^◌, [], map, length, string_bytes, true, IfSome, IsTrue};
 ghost use Rattle.nc_words.specs.Settings.{IsSetting};
 ghost use Rattle.nc_words.specs.Words.{FitsCommand};
-ghost use Rattle.nc_run.specs.Course.Item.{Alone};
-ghost use Rattle.nc_run.specs.Ending.{CountsStream, IsEarly, IsRefused, status_of};
-ghost use Rattle.nc_run.specs.Running.{Concludes, IsAnswered, IsWide, sides};
-ghost use Rattle.nc_run.specs.Turns.{is_done};
-ghost use Rattle.nc_run.specs.Watching.{ConcludesShown, CourseShown, RanShown, Saw};
+ghost use Rattle.nc_run.specs.Ending.{CountsStream, IsEarly, IsRefused, refusal};
+ghost use Rattle.nc_run.specs.Items.{does_acts, is_batch, items_of};
+ghost use Rattle.nc_run.specs.Running.{Concludes, IsAnswered};
+ghost use Rattle.nc_run.specs.Sides.{IsWide, sides};
+ghost use Rattle.nc_run.specs.Watching.{ConcludesShown, CourseShown, RequestShown, ShownIn};
 
-use crate::saying::say;
+use crate::acting::run_single;
+use crate::batching::run_lines;
+use crate::ending::{Ending, plain};
+use crate::milling::run_mill;
 use crate::status::Status;
 use crate::taking::take_input;
+use crate::telling::tell;
 use crate::watching::{Silent, Watch};
 use nc_cloud::Fleet;
 use nc_stream::{InputFault, Sink, Source};
-use nc_vault::{Fault, Reply, step};
-use nc_words::{Act, Command, Request, Setting, WordFault, read_words};
+use nc_vault::Fault;
+use nc_words::{Command, Request, WordFault, read_words};
 use std::alloc::Global;
 use std::thread::Threads;
 
-/// Does what the words ask for, over these clouds, this input and this output. The words hold neither the program's name
-/// nor the list of clouds. `err` gets nothing yet.
+/// Does what the words ask for, over these clouds, this input and this output, and tells a fault on `err`: one line, at any
+/// status but Ok. The words hold neither the program's name nor the list of clouds. A failing `err` changes no status.
 pub fn run<R: Threads + Sync, F: Fleet, S: Source, K: Sink, E: Sink>(
     rt: &R,
     alloc: Global,
@@ -33,16 +36,18 @@ pub fn run<R: Threads + Sync, F: Fleet, S: Source, K: Sink, E: Sink>(
     requires ready { F.ready }
     ensures answered { IsAnswered F.Fleet S.Source K.Sink (map string_bytes words.now)
         (sides fleet.old source.old out.old) (sides fleet.new source.new out.new) result }
-    ensures concludes { Concludes F.Fleet S.Source K.Sink (map string_bytes words.now)
-        (sides fleet.old source.old out.old) (sides fleet.new source.new out.new) result }
-    ensures err { err.new ≡ err.old }
+    ensures concludes { Concludes F.Fleet S.Source K.Sink E.Sink (map string_bytes words.now)
+        (sides fleet.old source.old out.old) (sides fleet.new source.new out.new) err.old err.new result }
 {
     let mut silent = Silent;
-    run_shown(rt, alloc, words, fleet, source, out, err, &mut silent)
+    match run_shown(rt, alloc, words, fleet, source, out, err, &mut silent) {
+        Some(status) => status,
+        None => unreachable!(),
+    }
 }
 
 /// The same, while the fleet is shown to a watcher at the end of each act that was answered Ok. Where the watcher doesn't let
-/// the run go on, it ends as it would after that act.
+/// the run go on, it ends there, and there is no status: that act's text isn't written, and nothing is told.
 pub fn run_shown<R: Threads + Sync, F: Fleet, S: Source, K: Sink, E: Sink, W: Watch<F>>(
     rt: &R,
     alloc: Global,
@@ -52,24 +57,55 @@ pub fn run_shown<R: Threads + Sync, F: Fleet, S: Source, K: Sink, E: Sink, W: Wa
     out: &mut K,
     err: &mut E,
     watch: &mut W,
-) -> Status
+) -> Option<Status>
     requires ready { F.ready }
     requires begins { W.knows watch.old watch.old [] fleet.old }
-    ensures answered { IsAnswered F.Fleet S.Source K.Sink (map string_bytes words.now)
-        (sides fleet.old source.old out.old) (sides fleet.new source.new out.new) result }
-    ensures shown { ConcludesShown F.Fleet S.Source K.Sink W.Watch (map string_bytes words.now)
-        (sides fleet.old source.old out.old) (sides fleet.new source.new out.new) watch.old watch.new result }
-    ensures err { err.new ≡ err.old }
+    ensures answered { IfSome result (IsAnswered F.Fleet S.Source K.Sink (map string_bytes words.now)
+        (sides fleet.old source.old out.old) (sides fleet.new source.new out.new)) }
+    ensures concludes { ConcludesShown F.Fleet S.Source K.Sink E.Sink W.Watch (map string_bytes words.now)
+        (sides fleet.old source.old out.old) (sides fleet.new source.new out.new)
+        err.old err.new watch.old watch.new result }
 {
-    let _ = err;
+    let ending = run_words(rt, alloc, words, fleet, source, out, watch)?;
+    tell(err, &ending);
+    Some(ending.status)
+}
+
+/// Does what the words ask for, and tells nothing of a fault.
+fn run_words<R: Threads + Sync, F: Fleet, S: Source, K: Sink, W: Watch<F>>(
+    rt: &R,
+    alloc: Global,
+    words: &[String],
+    fleet: &mut F,
+    source: &mut S,
+    out: &mut K,
+    watch: &mut W,
+) -> Option<Ending>
+    requires ready { F.ready }
+    requires begins { W.knows watch.old watch.old [] fleet.old }
+    ensures answered { IfSome result (λ e. IsAnswered F.Fleet S.Source K.Sink (map string_bytes words.now)
+        (sides fleet.old source.old out.old) (sides fleet.new source.new out.new) e.status) }
+    ensures shown { ShownIn F.Fleet S.Source K.Sink W.Watch (map string_bytes words.now)
+        (sides fleet.old source.old out.old) (sides fleet.new source.new out.new) watch.old watch.new result }
+{
     let width = fleet.width();
     if !is_wide(width) {
-        return Status::Width(width);
+        return Some(plain(Status::Width(width)));
     }
-    match read_words(words, width as u8) {
+    match read_words(alloc, words, width as u8) {
         Ok(request) => run_asked(rt, alloc, &request, fleet, source, out, watch),
-        Err(WordFault::Usage) => Status::Usage,
-        Err(WordFault::Name(cause)) => Status::Name(cause),
+        Err(fault) => Some(plain(refusal(fault))),
+    }
+}
+
+/// The status of a run whose words ask for nothing that can be done.
+fn refusal(fault: WordFault) -> Status
+    ensures { result ≡ refusal fault }
+{
+    match fault {
+        WordFault::Usage => Status::Usage,
+        WordFault::Name(cause) => Status::Name(cause),
+        WordFault::Memory => Status::Vault(Fault::Memory),
     }
 }
 
@@ -80,7 +116,7 @@ fn is_wide(width: usize) -> bool
     4 <= width && width <= 10
 }
 
-/// Does what a request asks for: takes the input that it wants, and does its act.
+/// Does what a request asks for: a mill, or takes the input that it wants, and does its acts.
 fn run_asked<R: Threads + Sync, F: Fleet, S: Source, K: Sink, W: Watch<F>>(
     rt: &R,
     alloc: Global,
@@ -89,107 +125,61 @@ fn run_asked<R: Threads + Sync, F: Fleet, S: Source, K: Sink, W: Watch<F>>(
     source: &mut S,
     out: &mut K,
     watch: &mut W,
-) -> Status
+) -> Option<Ending>
     requires ready { F.ready }
     requires width { IsWide (F.clouds fleet.old) }
     requires setting { IsSetting request.now.setting }
     requires fits { FitsCommand (F.clouds fleet.old) request.now.command }
     requires begins { W.knows watch.old watch.old [] fleet.old }
-    ensures begun { IsRefused result → ⊥ }
-    ensures early { IsEarly result → fleet.new ≡ fleet.old }
-    ensures shown { RanShown F.Fleet S.Source K.Sink W.Watch request.now
+    ensures begun { IfSome result (λ e. IsRefused e.status → ⊥) }
+    ensures early { IfSome result (λ e. IsEarly e.status → fleet.new ≡ fleet.old) }
+    ensures shown { RequestShown F.Fleet S.Source K.Sink W.Watch request.now
         (sides fleet.old source.old out.old) (sides fleet.new source.new out.new) watch.old watch.new result }
-    ensures read { CountsStream Status.ReadFault S.counts_exactly (S.faults source.old) (S.faults source.new) result }
-    ensures write { CountsStream Status.WriteFault K.counts_exactly (K.faults out.old) (K.faults out.new) result }
+    ensures read { IfSome result (λ e. CountsStream Status.ReadFault S.counts_exactly
+        (S.faults source.old) (S.faults source.new) e.status) }
+    ensures write { IfSome result (λ e. CountsStream Status.WriteFault K.counts_exactly
+        (K.faults out.old) (K.faults out.new) e.status) }
 {
-    let Command::Act(act) = &request.command;
+    if let Command::Mill(number) = request.command {
+        let width = fleet.width() as u8;
+        return Some(run_mill(rt, alloc, &request.setting, width, number, out));
+    }
     match take_input(alloc, &request.command, source) {
-        Ok(input) => run_act(
-            rt,
-            alloc,
-            fleet,
-            &request.setting,
-            act,
-            input.bytes(),
-            out,
-            watch,
-        ),
-        Err(InputFault::TooLong) => Status::TooLong,
-        Err(InputFault::Failed) => Status::ReadFault,
-        Err(InputFault::Memory) => Status::Vault(Fault::Memory),
+        Ok(input) => run_command(rt, alloc, request, input.bytes(), fleet, out, watch),
+        Err(InputFault::TooLong) => Some(plain(Status::TooLong)),
+        Err(InputFault::Failed) => Some(plain(Status::ReadFault)),
+        Err(InputFault::Memory) => Some(plain(Status::Vault(Fault::Memory))),
     }
 }
 
-/// Does one act, and tells what it answers where it was done.
-fn run_act<R: Threads + Sync, F: Fleet, K: Sink, W: Watch<F>>(
+/// Does the acts that a request asks for with this input.
+fn run_command<R: Threads + Sync, F: Fleet, K: Sink, W: Watch<F>>(
     rt: &R,
     alloc: Global,
+    request: &Request,
+    input: &[u8],
     fleet: &mut F,
-    setting: &Setting,
-    act: &Act,
-    bytes: &[u8],
     out: &mut K,
     watch: &mut W,
-) -> Status
+) -> Option<Ending>
     requires ready { F.ready }
     requires width { IsWide (F.clouds fleet.old) }
-    requires setting { IsSetting setting.now }
-    requires fits { FitsWidth (F.clouds fleet.old) act.now }
-    requires short { length bytes.now ≤ 2 ^ 26 }
+    requires setting { IsSetting request.now.setting }
+    requires fits { FitsCommand (F.clouds fleet.old) request.now.command }
+    requires acts { does_acts request.now.command ≡ true }
+    requires short { length input.now ≤ 2 ^ 26 }
     requires begins { W.knows watch.old watch.old [] fleet.old }
-    ensures begun { IsRefused result → ⊥ }
-    ensures late { IsEarly result → ⊥ }
-    ensures shown { CourseShown F.Fleet K.Sink W.Watch (Alone (task_of setting.now act.now bytes.now) ∷ [])
-        fleet.old fleet.new out.old out.new watch.old watch.new result }
-    ensures write { CountsStream Status.WriteFault K.counts_exactly (K.faults out.old) (K.faults out.new) result }
+    ensures begun { IfSome result (λ e. IsRefused e.status → ⊥) }
+    ensures late { IfSome result (λ e. IsEarly e.status → ⊥) }
+    ensures shown { CourseShown F.Fleet K.Sink W.Watch (F.clouds fleet.old) (is_batch request.now.command)
+        (items_of request.now input.now) fleet.old fleet.new out.old out.new watch.old watch.new result }
+    ensures write { IfSome result (λ e. CountsStream Status.WriteFault K.counts_exactly
+        (K.faults out.old) (K.faults out.new) e.status) }
 {
-    let reply = step(rt, alloc, fleet, setting, act, bytes);
-    let _goes_on = shows(watch, fleet, &reply);
-    match say(out, &reply) {
-        Ok(()) => status_by(reply),
-        Err(_) => Status::WriteFault,
-    }
-}
-
-/// Shows the watcher an act that was done, and tells whether the run goes on.
-fn shows<F: Fleet, W: Watch<F>>(watch: &mut W, fleet: &F, reply: &Reply) -> bool
-    ensures saw { Saw W.Watch (is_done reply.now) watch.old watch.new fleet.now result }
-{
-    was_done(reply) && watch.act_done(fleet)
-}
-
-fn was_done(reply: &Reply) -> bool
-    ensures { result ≡ is_done reply.now }
-{
-    match reply {
-        Reply::Stopped { .. } => false,
-        Reply::Stored { .. } | Reply::Removed { .. } => true,
-        Reply::Repaired { .. } | Reply::Restored { .. } | Reply::Settled { .. } => true,
-        Reply::Bytes(_) | Reply::Listing(_) | Reply::About { .. } | Reply::Damage(_) => true,
-    }
-}
-
-/// The status of a run whose last act was answered so, and told.
-fn status_by(reply: Reply) -> Status
-    ensures value { result ≡ status_of reply }
-    ensures begun { IsRefused result → ⊥ }
-    ensures late { IsEarly result → ⊥ }
-    ensures written { result ≡ Status.WriteFault → ⊥ }
-{
-    match reply {
-        Reply::Stopped { fault, after: _ } => Status::Vault(fault),
-        Reply::Stored { generation: _ } => Status::Ok,
-        Reply::Removed { generation: _ } => Status::Ok,
-        Reply::Bytes(_) => Status::Ok,
-        Reply::Listing(_) => Status::Ok,
-        Reply::About {
-            generation: _,
-            len: _,
-            witnessed: _,
-        } => Status::Ok,
-        Reply::Repaired { files: _ } => Status::Ok,
-        Reply::Restored { objects: _ } => Status::Ok,
-        Reply::Settled { names: _ } => Status::Ok,
-        Reply::Damage(_) => Status::Ok,
+    let setting = &request.setting;
+    match &request.command {
+        Command::Act(act) => run_single(rt, alloc, setting, act, input, fleet, out, watch),
+        Command::Batch => run_lines(rt, alloc, setting, input, fleet, out, watch),
+        Command::Mill(_) => unreachable!(),
     }
 }

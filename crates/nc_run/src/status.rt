@@ -20,6 +20,9 @@ pub enum Status {
     /// The words are a command, but the name isn't one.
     #[error("the name isn't one")]
     Name(NameFault),
+    /// This line of a batch, counted from 1, asks for nothing. The lines before it were done.
+    #[error("line {0} of the batch asks for nothing")]
+    BatchLine(u64),
     /// The input is longer than 64 MiB.
     #[error("the input is longer than 64 MiB")]
     TooLong,
@@ -41,7 +44,7 @@ impl Status {
     {
         match self {
             Status::Ok => 0,
-            Status::Width(_) | Status::Usage | Status::Name(_) => 2,
+            Status::Width(_) | Status::Usage | Status::Name(_) | Status::BatchLine(_) => 2,
             Status::TooLong => 7,
             Status::ReadFault => 8,
             Status::WriteFault => 9,

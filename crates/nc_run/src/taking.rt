@@ -1,6 +1,6 @@
 ghost use Rattle.std.specs.Prelude.{◌≡◌, ◌≤◌, ◌^◌, true, length, IfOk, OnErr};
 ghost use Rattle.nc_stream.specs.Input.{FailsBy};
-ghost use Rattle.nc_run.specs.Running.{TakesIf, reads_input};
+ghost use Rattle.nc_run.specs.Sides.{TakesIf, reads_input};
 
 use nc_name::Blob;
 use nc_stream::{InputFault, Source, read_all};
@@ -19,7 +19,7 @@ pub fn take_input<S: Source>(
     ensures short { IfOk result (λ input. length input ≤ 2 ^ 26) }
 {
     match command {
-        Command::Act(Act::Put(_)) => read_all(alloc, source),
+        Command::Act(Act::Put(_)) | Command::Batch => read_all(alloc, source),
         Command::Act(
             Act::Get(_)
             | Act::Remove(_)
@@ -29,6 +29,7 @@ pub fn take_input<S: Source>(
             | Act::Restore { .. }
             | Act::Scrub
             | Act::Recover,
-        ) => Ok(Blob::from_vec(Vec::new(alloc))),
+        )
+        | Command::Mill(_) => Ok(Blob::from_vec(Vec::new(alloc))),
     }
 }

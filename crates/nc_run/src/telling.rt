@@ -1,93 +1,65 @@
-//! What a scrub prints: a line for each part that isn't right. It takes no memory.
-ghost use Rattle.std.specs.Prelude.{◌≡◌, map};
-ghost use Rattle.std.specs.List.{concat};
-ghost use Rattle.nc_scrub.specs.declared.flaw.Part.TheVariants.{Chunk, Meta};
-ghost use Rattle.nc_run.specs.Sending.{Sends};
-ghost use Rattle.nc_run.specs.Texts.{flaw_line, flaw_text, state_text};
+//! The line that a run tells of its fault. It takes no memory.
+ghost use Rattle.std.specs.Prelude.{◌≡◌};
+ghost use Rattle.nc_words.specs.Sending.{Sends};
+ghost use Rattle.nc_run.specs.Ending.{plain};
+ghost use Rattle.nc_run.specs.Telling.{Tells, after_text, fault_line, line_text};
 
-use crate::sending::send_parts;
-use itoa::Buffer;
-use nc_scrub::{Part, State};
+use crate::causes::say_status;
+use crate::ending::{Ending, plain};
+use crate::numbers::say_one;
+use crate::status::Status;
 use nc_stream::{Failed, Sink};
-use nc_vault::NamedFlaw;
+use nc_words::send;
 
-/// All parts that aren't right, a line for each.
-pub fn say_flaws<K: Sink>(out: &mut K, flaws: &[NamedFlaw]) -> Result<(), Failed>
-    ensures says { Sends K.Sink (concat (map flaw_text flaws.now)) out.old out.new result }
+/// Tells a status by which the program ends before it runs, and gives it back.
+pub fn tell_early<E: Sink>(err: &mut E, status: Status) -> Status
+    ensures same { result ≡ status }
+    ensures tells { Tells E.Sink (plain status) err.old err.new }
 {
-    for flaw in flaws {
-        say_flaw(out, flaw)?;
+    let ending = plain(status);
+    tell(err, &ending);
+    ending.status
+}
+
+/// Tells why a run ended so: a line, or nothing where it ended Ok. What can't be written is dropped.
+pub(crate) fn tell<E: Sink>(err: &mut E, ending: &Ending)
+    ensures { Tells E.Sink ending.now err.old err.new }
+{
+    match &ending.status {
+        Status::Ok => {}
+        _ => {
+            let _ = say_line(err, ending);
+        }
     }
-    Ok(())
 }
 
-/// One part that isn't right.
-fn say_flaw<K: Sink>(out: &mut K, named: &NamedFlaw) -> Result<(), Failed>
-    ensures says { Sends K.Sink (flaw_text named.now) out.old out.new result }
+/// The line of a fault.
+fn say_line<E: Sink>(err: &mut E, ending: &Ending) -> Result<(), Failed>
+    ensures says { Sends E.Sink (fault_line ending.now) err.old err.new result }
 {
-    let name = named.name.bytes();
-    let flaw = named.flaw;
-    match flaw.part {
-        Part::Meta => say_meta(out, flaw.cloud, flaw.state, name),
-        Part::Chunk(row) => say_chunk(out, flaw.cloud, row, flaw.state, name),
+    send(err, b"nccloud: ")?;
+    say_place(err, ending.line)?;
+    say_after(err, ending.after)?;
+    say_status(err, &ending.status)?;
+    send(err, b"\n")
+}
+
+/// Which line of a batch it was.
+fn say_place<E: Sink>(err: &mut E, line: Option<u64>) -> Result<(), Failed>
+    ensures says { Sends E.Sink (line_text line) err.old err.new result }
+{
+    match line {
+        None => Ok(()),
+        Some(line) => say_one(err, b"line ", line, b": "),
     }
 }
 
-/// A cloud's metadata isn't right.
-fn say_meta<K: Sink>(out: &mut K, cloud: u8, state: State, name: &[u8]) -> Result<(), Failed>
-    ensures says { Sends K.Sink (flaw_line cloud Meta state name.now) out.old out.new result }
+/// With how many names an act on all of them was done.
+fn say_after<E: Sink>(err: &mut E, after: Option<u64>) -> Result<(), Failed>
+    ensures says { Sends E.Sink (after_text after) err.old err.new result }
 {
-    let mut buffer = Buffer::new();
-    send_parts(
-        out,
-        &[
-            b"cloud ",
-            buffer.format(cloud).as_bytes(),
-            b" meta ",
-            state_word(&state),
-            b" ",
-            name,
-            b"\n",
-        ],
-    )
-}
-
-/// The chunk of this row on a cloud isn't right.
-fn say_chunk<K: Sink>(
-    out: &mut K,
-    cloud: u8,
-    row: u8,
-    state: State,
-    name: &[u8],
-) -> Result<(), Failed>
-    ensures says { Sends K.Sink (flaw_line cloud (Chunk row) state name.now) out.old out.new result }
-{
-    let mut first = Buffer::new();
-    let mut second = Buffer::new();
-    send_parts(
-        out,
-        &[
-            b"cloud ",
-            first.format(cloud).as_bytes(),
-            b" chunk ",
-            second.format(row).as_bytes(),
-            b" ",
-            state_word(&state),
-            b" ",
-            name,
-            b"\n",
-        ],
-    )
-}
-
-/// Why a part isn't right, in a word.
-fn state_word(state: &State) -> &[u8]
-    ensures { result.now ≡ state_text state.now }
-{
-    match *state {
-        State::Missing => b"missing",
-        State::Broken => b"broken",
-        State::Old => b"old",
-        State::Marked => b"changed",
+    match after {
+        None => Ok(()),
+        Some(names) => say_one(err, b"after ", names, b" names: "),
     }
 }
