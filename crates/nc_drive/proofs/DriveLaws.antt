@@ -1,15 +1,14 @@
 -- What becomes of an event, from what its run told.
-use Rattle.std.proofs.Common.{◌≡◌, ◌≢◌, ◌∙◌, ◌≤◌, ◌<◌, ◌+◌, ◌++◌, ℕ, suc, Bool, true, false, if◌then◌else◌, List, [], ◌∷◌, length, take, get_or, refl, sym, ap, subst, arith}
+use Rattle.std.proofs.Common.{◌≡◌, ◌≢◌, ◌∙◌, ◌≤◌, ◌<◌, ◌+◌, ◌++◌, ℕ, Option, None, Some, IsSome, List, [], ◌∷◌, length, take, get_or, refl, sym, ap, subst, arith}
 use Rattle.std.proofs.lemmas.List.{take_all, take_more}
 use Rattle.nc_name.specs.declared.key.Key.{Key}
-use Rattle.nc_cloud.specs.Fleet.{tally}
 use Rattle.nc_memory.specs.declared.memory.MemFleet.{MemFleet}
 use Rattle.nc_memory.specs.declared.record.Damage.{Damage}
 use Rattle.nc_memory.specs.declared.record.Torn.{Torn}
 use Rattle.nc_memory.specs.declared.record.Event.TheVariants as recorded
 use Rattle.nc_memory.specs.Memory.{contents_of, log_of, width_of}
 use Rattle.nc_memory.specs.Moments.{now_of}
-use Rattle.nc_memory.specs.Record.{counted, fate_in, lost}
+use Rattle.nc_memory.specs.Record.{fate_in, lost}
 use Rattle.nc_memory.specs.Rounds.{round_place, rounds_in}
 use Rattle.nc_memory.specs.Stops.{LeavesStopped, cut}
 use Rattle.nc_run.specs.declared.status.Status.{Status}
@@ -37,27 +36,37 @@ pub record Makes (Became : Happening → Type 0) (old new : MemFleet) (o : Outco
 pub happens_by : (event : Event) (old new : MemFleet) (o : Outcome) → Makes (λ h. Became event old new o h) old new o → Happens event old new o
 happens_by event old new o m = record { mark = m.mark; happened = record { width = m.width; place = m.place; became = m.became; steps = m.steps } }
 
+-- a run without the round has a status
+some_status : (status : Option Status) → (status ≡ None → ⊥) → IsSome status
+some_status None never = absurd (never refl)
+some_status (Some s) never = refl
+
+pub has_status : (words : List (List ℕ)) (given : List ℕ) (round : ℕ) (old new : MemFleet) (e : Ending) → RunsUntil words given round old new e
+    → rounds_in (log_of new) ≤ round → IsSome e.status
+has_status words given round old new e r within =
+    some_status e.status (λ none. let has : round < rounds_in (log_of new) = r.reached none in absurd (omega (arith, has, within)))
+
 -- a run that went to its end
 pub whole_run : (words : List (List ℕ)) (given : List ℕ) (round : ℕ) (old new : MemFleet) (e : Ending) (o : Outcome) → RunsUntil words given round old new e
-    → rounds_in (log_of new) ≤ round → o.status ≡ e.status → o.out ≡ e.out → o.mark ≡ now_of new → o.done ≡ e.done → Makes (RunBecame words given old new o) old new o
-whole_run words given round old new e o r within status out mark done =
-    let runs : Runs words given old new o.status o.out r.done r.next =
-    subst (λ (s : Status). Runs words given old new s o.out r.done r.next) (sym status)
+    → e.status ≡ Some o.status → o.out ≡ e.out → o.mark ≡ now_of new → o.done ≡ e.done → Makes (RunBecame words given old new o) old new o
+whole_run words given round old new e o r status out mark done =
+    let runs : Runs words given old new (Some o.status) o.out r.done r.next =
+    subst (λ (s : Option Status). Runs words given old new s o.out r.done r.next) status
     (subst (λ (bytes : List ℕ). Runs words given old new e.status bytes r.done r.next) (sym out) r.runs) in
     record {
       mark = mark_of (acts r.done r.next) o.mark;
-      width = (runs_follow words given old new e.status e.out r.done r.next r.runs).clouds;
+      width = (runs_follow words given old new (Some o.status) o.out r.done r.next runs).clouds;
       place = refl;
-      became = record { done = r.done; next = r.next; runs = runs; counts = done ∙ r.counts ∙ ap (λ (ts : List _). counted (length ts)) (r.exact within); happens = refl };
-      steps = run_steps words given old new e.status e.out r.done r.next o.mark r.runs mark;
+      became = record { done = r.done; next = r.next; runs = runs; counts = done ∙ r.counts; happens = refl };
+      steps = run_steps words given old new o.status o.out r.done r.next o.mark runs mark;
     }
 
 -- one that went to its end for want of the round
 pub not_stopped : (words : List (List ℕ)) (given : List ℕ) (at round : ℕ) (fates : List Torn) (old new : MemFleet) (e : Ending) (o : Outcome) → RunsUntil words given at old new e
-    → at ≤ rounds_in (log_of old) + round → rounds_in (log_of new) ≤ at → o.status ≡ e.status → o.out ≡ e.out → o.mark ≡ now_of new → o.done ≡ e.done
+    → at ≤ rounds_in (log_of old) + round → rounds_in (log_of new) ≤ at → e.status ≡ Some o.status → o.out ≡ e.out → o.mark ≡ now_of new → o.done ≡ e.done
     → Makes (MayStop words given round fates old new o) old new o
 not_stopped words given at round fates old new e o r small within status out mark done =
-    let w : Makes (RunBecame words given old new o) old new o = whole_run words given at old new e o r within status out mark done in
+    let w : Makes (RunBecame words given old new o) old new o = whole_run words given at old new e o r status out mark done in
     record { mark = w.mark; width = w.width; place = w.place; became = without (omega (arith, small, within)) w.became; steps = w.steps }
 
 -- one that was stopped in it
@@ -67,14 +76,11 @@ pub stopped : (words : List (List ℕ)) (given : List ℕ) (at round : ℕ) (fat
     → IsQuiet o → o.mark ≡ now_of new → o.done ≡ e.done → Makes (MayStop words given round fates old new o) old new o
 stopped words given at round fates old ended new e o r is has_round since left leaves wide quiet mark done =
     let before : now_of r.middle ≤ round_place (log_of ended) at = subst (λ (k : ℕ). k ≤ round_place (log_of ended) at) r.since since in
-    let s : IsStopped words given round fates old new r.early r.rest = record {
-      status = e.status;
+    let s : IsStopped words given round fates old new r.done r.next = record {
+      result = e.status;
       out = e.out;
       ended = ended;
-      all = r.done;
-      last = r.next;
       runs = r.runs;
-      parts = r.parts;
       middle = r.middle;
       takes_all = r.takes_all;
       takes_next = r.takes_next;
@@ -85,11 +91,11 @@ stopped words given at round fates old ended new e o r is has_round since left l
     } in
     let leaves_there : LeavesStopped (place_in old ended round) ended new = subst (λ (k : ℕ). LeavesStopped (round_place (log_of ended) k) ended new) is leaves in
     record {
-      mark = mark_of (acts r.early r.rest) o.mark;
+      mark = mark_of (acts r.done r.next) o.mark;
       width = wide ∙ (runs_follow words given old ended e.status e.out r.done r.next r.runs).clouds;
       place = refl;
-      became = was_stopped (record { done = r.early; next = r.rest; stopped = s; counts = done ∙ r.counts; quiet = quiet; happens = refl });
-      steps = stop_steps words given round fates old new r.early r.rest o.mark s leaves_there mark;
+      became = was_stopped (record { done = r.done; next = r.next; stopped = s; counts = done ∙ r.counts; quiet = quiet; happens = refl });
+      steps = stop_steps words given round fates old new r.done r.next o.mark s leaves_there mark;
     }
 
 -- a loss

@@ -1,5 +1,5 @@
 -- One event of each kind: the record goes on to its mark, and what happened leads to what is held there.
-use Rattle.std.proofs.Common.{◌≡◌, ◌≢◌, ◌∙◌, ◌≤◌, ◌<◌, ◌+◌, ◌++◌, ℕ, zero, suc, Option, List, [], ◌∷◌, length, length-append, sym, ap, subst, arith}
+use Rattle.std.proofs.Common.{◌≡◌, ◌≢◌, ◌∙◌, ◌≤◌, ◌<◌, ◌+◌, ◌++◌, ℕ, zero, suc, Option, Some, List, [], ◌∷◌, length, length-append, sym, ap, subst, arith}
 use Rattle.std.proofs.lemmas.List.{take-append-le}
 use Rattle.nc_name.specs.declared.key.Key.{Key}
 use Rattle.nc_cloud.specs.Contents.{Contents, nothing}
@@ -33,9 +33,9 @@ mark_of h place = record { happening = h; place = place }
 -- ---- a run
 
 pub run_steps : (words : List (List ℕ)) (given : List ℕ) (old new : MemFleet) (status : Status) (out : List ℕ) (done : List (Turn MemFleet)) (next : Option (Turn MemFleet)) (place : ℕ)
-    → Runs words given old new status out done next → place ≡ now_of new → Steps (width_of old) (mark_of (acts done next) place) (log_of old) (log_of new)
+    → Runs words given old new (Some status) out done next → place ≡ now_of new → Steps (width_of old) (mark_of (acts done next) place) (log_of old) (log_of new)
 run_steps words given old new status out done next place r here = record {
-  kept = follows_kept old new (runs_follow words given old new status out done next r);
+  kept = follows_kept old new (runs_follow words given old new (Some status) out done next r);
   here = here;
   leads = λ V at stands bears. runs_lead words given old new status out done next r V at stands;
 }
@@ -56,7 +56,7 @@ pub stop_steps : (words : List (List ℕ)) (given : List ℕ) (round : ℕ) (fat
 stop_steps words given round fates old new done next place s leaves here =
     let at : ℕ = place_in old s.ended round in
     let early : Follows clouds old s.middle = all_follow clouds old s.middle done s.takes_all in
-    let whole : Follows clouds old s.ended = runs_follow words given old s.ended s.status s.out s.all s.last s.runs in
+    let whole : Follows clouds old s.ended = runs_follow words given old s.ended s.result s.out done next s.runs in
     let later : now_of old ≤ now_of s.middle = early.time.later in
     let before : now_of s.middle ≤ at = s.before in
     let long : now_of new ≡ at + 1 = leaves.length_is in

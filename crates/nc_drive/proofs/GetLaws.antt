@@ -1,11 +1,12 @@
 -- What a get finds after a drive.
-use Rattle.std.proofs.Common.{◌≡◌, ◌∙◌, Option, List, [], ◌∷◌, ℕ, codes, refl, sym, ap, subst}
+use Rattle.std.proofs.Common.{◌≡◌, ◌∙◌, ◌⊎◌, inl, inr, Option, List, [], ◌∷◌, ℕ, codes, refl, sym, ap, subst}
 use Rattle.nc_state.specs.Clouds.{Clouds, no_cloud}
 use Rattle.nc_state.specs.Showing.{AreBearable}
 use Rattle.nc_state.specs.Vaults.{IsVault, Vault}
 use Rattle.nc_words.specs.declared.act.Act.{Act}
 use Rattle.nc_words.specs.declared.act.Act.TheVariants as act
 use Rattle.nc_words.specs.declared.act.Command.TheVariants as command
+use Rattle.nc_words.specs.Words.{Means, arguments}
 use Rattle.nc_words.proofs.OneMeaning.{one_command}
 use Rattle.nc_memory.specs.declared.memory.MemFleet.{MemFleet}
 use Rattle.nc_memory.specs.Memory.{contents_of, width_of}
@@ -19,7 +20,7 @@ use Rattle.nc_vault.specs.Replies.{RepliesTo, RepliesWith}
 use Rattle.nc_run.specs.declared.status.Status.{Status}
 use Rattle.nc_run.specs.declared.status.Status.TheVariants as st
 use Rattle.nc_history.specs.Histories.{Happening, HistoryTo, empty_vault}
-use Rattle.nc_history.specs.Values.{GetIsAnswered}
+use Rattle.nc_history.specs.Values.{GetIsAnswered, MayStopGet}
 use Rattle.nc_history.proofs.GetLaws.{last_done_is_got, no_file_is_right, nothing_else_stops_get, put_then_get}
 use Rattle.nc_history.proofs.LossLaws.{damage_is}
 use Rattle.nc_state.proofs.EmptyLaw.{empty_stands}
@@ -45,9 +46,11 @@ all_damage n (h ∷ hs) V W (U, happens, stands, later) =
 
 -- ---- how a get is answered
 
-get_asks : (n : ℕ) (name : List ℕ) → AskFor n (codes "get" ∷ name ∷ []) (act.Get name)
-get_asks n name = record {
-  only = λ request asks. one_command n (codes "get" ∷ name ∷ []) request.command (command.Act (act.Get name)) asks.command.means refl;
+get_asks : (n : ℕ) (words : List (List ℕ)) (name : List ℕ) → arguments words ≡ codes "get" ∷ name ∷ [] → AskFor n words (act.Get name)
+get_asks n words name is = record {
+  only = λ request asks.
+      one_command n (codes "get" ∷ name ∷ []) request.command (command.Act (act.Get name))
+      (subst (λ (given : List (List ℕ)). Means n given request.command) is asks.command.means) refl;
   reads_none = refl;
 }
 
@@ -76,8 +79,9 @@ module _ (events : List Event) (old mid new : MemFleet) (outcomes : List Outcome
   abbrev stands : HistoryStands n (history_of a.drive) empty_vault (contents_of mid)
   stands = nothing_begins events old mid outcomes a.drive
 
-  answered : OfVault o.status → Answered (act.Get name) mid new o.status o.out
-  answered of = run_answered (codes "get" ∷ name ∷ []) (act.Get name) a.given mid new o.status o.out (get_asks (width_of mid) name) of a.run.done a.run.next a.run.runs
+  answered : OfVault o.status → Answered (act.Get name) mid new o.status o.out ⊎ (o.status ≡ st.Vault fault.Memory)
+  answered of =
+      run_answered a.words (act.Get name) a.given mid new o.status o.out (get_asks (width_of mid) a.words name a.asks) of a.run.done a.run.next a.run.runs
 
   -- its answer on the vault that the history leads to
   abbrev on_vault : (g : Answered (act.Get name) mid new o.status o.out) (answer : Reply) → g.answer ≡ answer → GetIsAnswered n stands.vault name answer
@@ -100,14 +104,41 @@ module _ (events : List Event) (old mid new : MemFleet) (outcomes : List Outcome
 
   printed_bytes : o.status ≡ st.Ok → GetIsAnswered n stands.vault name (reply.Bytes o.out)
   printed_bytes ok =
-      let g : Answered (act.Get name) mid new o.status o.out = answered (subst (λ (s : Status). OfVault s) (sym ok) tt) in
-      on_vault g (reply.Bytes o.out) (bytes_answer name g.answer o.status o.out (subst (λ (k : Act). IsReplyTo k g.answer) g.is_act g.acted.kind) ok g.ended)
+      elim (answered (subst (λ (s : Status). OfVault s) (sym ok) tt)) [
+        | inl g ↦
+            on_vault g (reply.Bytes o.out)
+            (bytes_answer name g.answer o.status o.out (subst (λ (k : Act). IsReplyTo k g.answer) g.is_act g.acted.kind) ok g.ended)
+        | inr memory ↦
+            let wrong : st.Ok ≡ st.Vault fault.Memory = sym ok ∙ memory in
+            absurd cc
+      ]
 
-  abbrev stopped_answer : (cause : Fault) → o.status ≡ st.Vault cause → (after : Option ℕ) × GetIsAnswered n stands.vault name (reply.Stopped cause after)
-  stopped_answer cause is =
-      let g : Answered (act.Get name) mid new o.status o.out = answered (subst (λ (s : Status). OfVault s) (sym is) tt) in
+  abbrev stopped_by : (g : Answered (act.Get name) mid new o.status o.out) (cause : Fault) → o.status ≡ st.Vault cause
+      → (after : Option ℕ) × GetIsAnswered n stands.vault name (reply.Stopped cause after)
+  stopped_by g cause is =
       let s : StoppedFor cause g.answer = fault_answer g.answer o.status o.out cause is g.ended in
       (s.after, on_vault g (reply.Stopped cause s.after) s.is)
+
+  no_file : o.status ≡ st.Vault fault.NoFile → (after : Option ℕ) × GetIsAnswered n stands.vault name (reply.Stopped fault.NoFile after)
+  no_file is =
+      elim (answered (subst (λ (s : Status). OfVault s) (sym is) tt)) [
+        | inl g ↦ stopped_by g fault.NoFile is
+        | inr memory ↦
+            let wrong : st.Vault fault.NoFile ≡ st.Vault fault.Memory = sym is ∙ memory in
+            absurd cc
+      ]
+
+  may_stop : (cause : Fault) → o.status ≡ st.Vault cause → MayStopGet (failing_in clouds (act.Get name) mid new) cause
+  may_stop cause is =
+      elim (answered (subst (λ (s : Status). OfVault s) (sym is) tt)) [
+        | inl g ↦
+            let stopped = stopped_by g cause is in
+            nothing_else_stops_get n stands.vault name cause stopped.0 stopped.1
+        | inr memory ↦
+            let there : st.Vault cause ≡ st.Vault fault.Memory = sym is ∙ memory in
+            let same : cause ≡ fault.Memory = cc in
+            subst (λ (f : Fault). MayStopGet (failing_in clouds (act.Get name) mid new) f) (sym same) tt
+      ]
 
 pub last_done_is_printed : LastDoneIsPrinted
 last_done_is_printed events old mid new outcomes name o a gave ok =
@@ -117,14 +148,11 @@ last_done_is_printed events old mid new outcomes name o a gave ok =
 pub no_file_is_removed : NoFileIsRemoved
 no_file_is_removed events old mid new outcomes name o a gave is =
     let s = nothing_begins events old mid outcomes a.drive in
-    let stopped = stopped_answer events old mid new outcomes name o a fault.NoFile is in
+    let stopped = no_file events old mid new outcomes name o a is in
     no_file_is_right (width_of old) (history_of a.drive) empty_vault s.vault name stopped.0 gave s.history stopped.1
 
 pub few_causes_stop : FewCausesStop
-few_causes_stop events old mid new outcomes name o cause a is =
-    let s = nothing_begins events old mid outcomes a.drive in
-    let stopped = stopped_answer events old mid new outcomes name o a cause is in
-    nothing_else_stops_get (width_of old) s.vault name cause stopped.0 stopped.1
+few_causes_stop events old mid new outcomes name o cause a is = may_stop events old mid new outcomes name o a cause is
 
 pub put_is_printed : PutIsPrinted
 put_is_printed events old mid new outcomes name o a gave is none ok =

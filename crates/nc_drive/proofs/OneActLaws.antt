@@ -1,5 +1,5 @@
 -- A run of one act: what it did, and how it ended.
-use Rattle.std.proofs.Common.{◌≡◌, ◌∙◌, ◌++◌, ℕ, true, false, Option, None, Some, List, [], ◌∷◌, append-nil, refl, sym, ap, subst}
+use Rattle.std.proofs.Common.{◌≡◌, ◌∙◌, ◌++◌, ◌⊎◌, ℕ, true, false, Option, None, Some, List, [], ◌∷◌, append-nil, inl, inr, refl, sym, ap, subst}
 use Rattle.nc_words.specs.declared.act.Act.{Act}
 use Rattle.nc_words.specs.declared.act.Command.{Command}
 use Rattle.nc_words.specs.declared.act.Command.TheVariants as command
@@ -11,25 +11,28 @@ use Rattle.nc_stream.specs.declared.memory.MemSink.{MemSink}
 use Rattle.nc_memory.specs.declared.memory.MemFleet.{MemFleet}
 use Rattle.nc_memory.specs.Memory.{width_of}
 use Rattle.nc_vault.specs.declared.fault.Fault.{Fault}
+use Rattle.nc_vault.specs.declared.fault.Fault.TheVariants as fault
 use Rattle.nc_vault.specs.declared.reply.Reply.{Reply}
 use Rattle.nc_vault.specs.declared.reply.Reply.TheVariants as reply
 use Rattle.nc_vault.specs.Acting.{Acted}
 use Rattle.nc_run.specs.declared.status.Status.{Status}
 use Rattle.nc_run.specs.declared.status.Status.TheVariants as st
-use Rattle.nc_run.specs.Course.{Course, Ends, Fit, FitsNext, Item, Says, items_by}
-use Rattle.nc_run.specs.Course.Item.{Alone}
-use Rattle.nc_run.specs.Ending.{IsRefused, status_of}
-use Rattle.nc_run.specs.Running.{reads_input}
+use Rattle.nc_run.specs.Course.{Course, Ends, SaysBy}
+use Rattle.nc_run.specs.Ending.{HowEnded, IsRefused, status_of}
+use Rattle.nc_run.specs.Items.{Fit, FitsNext, Item, NextAsksNothing, NextIsLine, is_batch, items_by}
+use Rattle.nc_run.specs.Items.Item.{Alone}
+use Rattle.nc_run.specs.Sides.{reads_input, sides}
 use Rattle.nc_run.specs.Texts.{text_of}
 use Rattle.nc_run.specs.Turns.{Takes, TakesAll, TakesNext, Turn, is_done}
 use Rattle.nc_drive.specs.Fleets.{clouds, output, written_to}
-use Rattle.nc_drive.specs.Outcomes.{GoesBy, Runs, not_read, was_refused, was_run}
+use Rattle.nc_drive.specs.Outcomes.{GoesBy, Runs, not_read, was_milled, was_refused, was_run, was_unbegun}
+use Rattle.nc_drive.proofs.RunLaws.{EndedSo, ended_so, ending_of}
 
 -- ---- its act
 
 -- how a run of one act ended: its act was done, and its text was printed, or it wasn't
 pub data Ended (answer : Reply) (status : Status) (out : List ℕ) : Type 0 where
-  was_done : is_done answer ≡ true → status ≡ st.Ok → out ≡ text_of answer → Ended answer status out
+  was_done : is_done answer ≡ true → status ≡ st.Ok → out ≡ text_of false answer → Ended answer status out
   was_not : is_done answer ≡ false → status ≡ status_of answer → Ended answer status out
 
 record OneTurn (task : Task) (old new : MemFleet) (status : Status) (out : List ℕ) : Type 0 where
@@ -39,44 +42,59 @@ record OneTurn (task : Task) (old new : MemFleet) (status : Status) (out : List 
   after : new ≡ turn.after
   ended : Ended turn.answer status out
 
--- a run that ended so did all that it was to do
-all_ok : (left : List Item) (done : List (Turn MemFleet)) (status : Status) → Ends left done None status → (status ≡ st.WriteFault → ⊥) → (status ≡ st.Ok) × (left ≡ [])
-all_ok left done st.Ok ends complete = (refl, ends)
-all_ok left done (st.Width w) ends complete = absurd ends
-all_ok left done st.Usage ends complete = absurd ends
-all_ok left done (st.Name cause) ends complete = absurd ends
-all_ok left done st.TooLong ends complete = absurd ends
-all_ok left done st.ReadFault ends complete = absurd ends
-all_ok left done st.WriteFault ends complete = absurd (complete refl)
-all_ok left done (st.Vault cause) ends complete = absurd ends
+-- no line of a batch is left
+record NoLine (n : ℕ) (left : List Item) : Type 0 where
+  is_none : NextIsLine left → ⊥
+  asks : NextAsksNothing n left → ⊥
 
-module _ (task : Task) (old new : MemFleet) (sink filled : MemSink) (status : Status) (out : List ℕ) (empty : written_to sink ≡ []) (printed : written_to filled ≡ out)
-    (complete : status ≡ st.WriteFault → ⊥) where
+-- a run that ended so did all that it was to do
+all_ok : (n : ℕ) (left : List Item) (done : List (Turn MemFleet)) (status : Status) → NoLine n left → Ends n left done None status → (status ≡ st.WriteFault → ⊥)
+    → (status ≡ st.Ok) × (left ≡ [])
+all_ok n left done st.Ok no_line ends complete = (refl, ends)
+all_ok n left done (st.Width w) no_line ends complete = absurd ends
+all_ok n left done st.Usage no_line ends complete = absurd ends
+all_ok n left done (st.Name cause) no_line ends complete = absurd ends
+all_ok n left done (st.BatchLine k) no_line ends complete = absurd (no_line.asks ends.1)
+all_ok n left done st.TooLong no_line ends complete = absurd ends
+all_ok n left done st.ReadFault no_line ends complete = absurd ends
+all_ok n left done st.WriteFault no_line ends complete = absurd (complete refl)
+all_ok n left done (st.Vault fault.Memory) no_line ends complete = absurd (no_line.is_none ends)
+all_ok n left done (st.Vault cause) no_line ends complete = absurd ends
+
+module _ (task : Task) (old new : MemFleet) (sink filled : MemSink) (n : ℕ) (e : HowEnded) (out : List ℕ) (empty : written_to sink ≡ [])
+    (printed : written_to filled ≡ out) (complete : e.status ≡ st.WriteFault → ⊥) where
   abbrev Turned : Type 0
-  Turned = OneTurn task old new status out
+  Turned = OneTurn task old new e.status out
 
   one_left : (left : List Item) → left ≡ Alone task ∷ [] → left ≡ [] → ⊥
   one_left left is none =
       let wrong : Alone task ∷ [] ≡ [] = sym is ∙ none in
       absurd cc
 
-  wants : (left : List Item) (t : Turn MemFleet) → left ≡ Alone task ∷ [] → FitsNext left (Some t) → t.task ≡ task
+  alone : (left : List Item) → left ≡ Alone task ∷ [] → NoLine n left
+  alone left is = subst (λ (items : List Item). NoLine n items) (sym is) (record { is_none = λ line. line; asks = λ line. line })
+
+  nothing : (left : List Item) → left ≡ [] → NoLine n left
+  nothing left is = subst (λ (items : List Item). NoLine n items) (sym is) (record { is_none = λ line. line; asks = λ line. line })
+
+  wants : (left : List Item) (t : Turn MemFleet) → left ≡ Alone task ∷ [] → FitsNext n left (Some t) → t.task ≡ task
   wants left t is fits =
-      let there : FitsNext (Alone task ∷ []) (Some t) = subst (λ (items : List Item). FitsNext items (Some t)) is fits in
+      let there : FitsNext n (Alone task ∷ []) (Some t) = subst (λ (items : List Item). FitsNext n items (Some t)) is fits in
       there
 
-  wants_none : (left : List Item) (t : Turn MemFleet) → left ≡ [] → FitsNext left (Some t) → ⊥
-  wants_none left t is fits = subst (λ (items : List Item). FitsNext items (Some t)) is fits
+  wants_none : (left : List Item) (t : Turn MemFleet) → left ≡ [] → FitsNext n left (Some t) → ⊥
+  wants_none left t is fits = subst (λ (items : List Item). FitsNext n items (Some t)) is fits
 
-  said : (t : Turn MemFleet) (s : Status) → s ≡ st.Ok → Says output (t ∷ []) sink filled s → out ≡ text_of t.answer
+  said : (t : Turn MemFleet) (s : Status) → s ≡ st.Ok → SaysBy output false (t ∷ []) sink filled s → out ≡ text_of false t.answer
   said t s ok says =
-      let there : Says output (t ∷ []) sink filled st.Ok = subst (λ (k : Status). Says output (t ∷ []) sink filled k) ok says in
-      let whole : written_to filled ≡ written_to sink ++ (text_of t.answer ++ []) = there in
-      sym printed ∙ whole ∙ ap (λ (l : List ℕ). l ++ (text_of t.answer ++ [])) empty ∙ append-nil (text_of t.answer)
+      let there : SaysBy output false (t ∷ []) sink filled st.Ok = subst (λ (k : Status). SaysBy output false (t ∷ []) sink filled k) ok says in
+      let whole : written_to filled ≡ written_to sink ++ (text_of false t.answer ++ []) = there in
+      sym printed ∙ whole ∙ ap (λ (l : List ℕ). l ++ (text_of false t.answer ++ [])) empty ∙ append-nil (text_of false t.answer)
 
-  by_turns : (left : List Item) (middle : MemFleet) (done : List (Turn MemFleet)) (next : Option (Turn MemFleet)) → Fit (Alone task ∷ []) done left → FitsNext left next
-      → TakesAll clouds old done middle → TakesNext clouds middle next new → Ends left done next status → Says output done sink filled status → Turned
-  by_turns left middle [] None fit fits all one ends says = absurd (one_left left fit (all_ok left [] status ends complete).1)
+  by_turns : (left : List Item) (middle : MemFleet) (done : List (Turn MemFleet)) (next : Option (Turn MemFleet)) → Fit n (Alone task ∷ []) done left
+      → FitsNext n left next → TakesAll clouds old done middle → TakesNext clouds middle next new → Ends n left done next e.status
+      → SaysBy output false done sink filled e.status → Turned
+  by_turns left middle [] None fit fits all one ends says = absurd (one_left left fit (all_ok n left [] e.status (alone left fit) ends complete).1)
   by_turns left middle [] (Some t) fit fits all one ends says = record {
     turn = t;
     is_task = wants left t fit fits;
@@ -85,19 +103,19 @@ module _ (task : Task) (old new : MemFleet) (sink filled : MemSink) (status : St
     ended = was_not ends.0 ends.1;
   }
   by_turns left middle (t ∷ []) None fit fits all one ends says =
-      let ok : status ≡ st.Ok = (all_ok left (t ∷ []) status ends complete).0 in
+      let ok : e.status ≡ st.Ok = (all_ok n left (t ∷ []) e.status (nothing left fit.1) ends complete).0 in
       record {
         turn = t;
         is_task = fit.0;
         takes = all.0;
         after = one ∙ all.2;
-        ended = was_done all.1 ok (said t status ok says);
+        ended = was_done all.1 ok (said t e.status ok says);
       }
   by_turns left middle (t ∷ []) (Some u) fit fits all one ends says = absurd (wants_none left u fit.1 fits)
   by_turns left middle (t ∷ u ∷ ts) next fit fits all one ends says = absurd fit.1
 
-  one_turn : Course clouds output (Alone task ∷ []) old new sink filled status → Turned
-  one_turn c = by_turns c.left c.middle c.done c.next c.fit c.fits_next c.takes_all c.takes_next c.ends c.says
+  one_turn : Course clouds output n false (Alone task ∷ []) old new sink filled (Some e) → Turned
+  one_turn c = by_turns c.left c.middle c.done c.next c.fit c.fits_next c.takes_all c.takes_next c.ends.ends c.says
 
 -- ---- how it is answered
 
@@ -131,6 +149,7 @@ not_refused st.Ok of refused = refused
 not_refused (st.Width w) of refused = of
 not_refused st.Usage of refused = of
 not_refused (st.Name cause) of refused = of
+not_refused (st.BatchLine k) of refused = of
 not_refused st.TooLong of refused = of
 not_refused st.ReadFault of refused = of
 not_refused st.WriteFault of refused = of
@@ -147,22 +166,46 @@ module _ (words : List (List ℕ)) (a : Act) (given : List ℕ) (old new : MemFl
       let wrong : false ≡ true = sym (ap reads_input is ∙ ask.reads_none) ∙ reads in
       absurd cc
 
-  course_turn : (input : List ℕ) (setting : Setting) (wanted : Command) (sink filled : MemSink) → wanted ≡ command.Act a → written_to sink ≡ [] → written_to filled ≡ out
-      → (status ≡ st.WriteFault → ⊥) → Course clouds output (items_by setting wanted input) old new sink filled status → OneTurn (task_of setting a input) old new status out
-  course_turn input setting wanted sink filled is empty printed complete c =
-      one_turn (task_of setting a input) old new sink filled status out empty printed complete
-      (subst (λ (k : Command). Course clouds output (items_by setting k input) old new sink filled status) is c)
+  not_mill : (wanted : Command) (number : ℕ) → wanted ≡ command.Act a → wanted ≡ command.Mill number → ⊥
+  not_mill wanted number is mills =
+      let wrong : command.Act a ≡ command.Mill number = sym is ∙ mills in
+      absurd cc
 
-  pub run_answered : (done : List (Turn MemFleet)) (next : Option (Turn MemFleet)) → Runs words given old new status out done next → Answered a old new status out
+  course_turn : (input : List ℕ) (setting : Setting) (wanted : Command) (sink filled : MemSink) (e : HowEnded) → wanted ≡ command.Act a → written_to sink ≡ []
+      → written_to filled ≡ out → (e.status ≡ st.WriteFault → ⊥)
+      → Course clouds output (width_of old) (is_batch wanted) (items_by setting wanted input) old new sink filled (Some e)
+      → OneTurn (task_of setting a input) old new e.status out
+  course_turn input setting wanted sink filled e is empty printed complete c =
+      one_turn (task_of setting a input) old new sink filled (width_of old) e out empty printed complete
+      (subst (λ (k : Command). Course clouds output (width_of old) (is_batch k) (items_by setting k input) old new sink filled (Some e)) is c)
+
+  -- it was done so, or memory ran out while the words were read
+  pub run_answered : (done : List (Turn MemFleet)) (next : Option (Turn MemFleet)) → Runs words given old new (Some status) out done next
+      → Answered a old new status out ⊎ (status ≡ st.Vault fault.Memory)
   run_answered done next r = by_goes r.goes
     where
-      by_goes : GoesBy words (record { fleet = old; source = r.source; out = r.sink }) (record { fleet = new; source = r.read; out = r.filled }) status done next
-          → Answered a old new status out
-      by_goes (was_refused refused none is_next) = absurd (not_refused status of refused)
-      by_goes (not_read request asks unread none is_next) = absurd (not_unread request.command (ask.only request asks) unread.reads)
+      ended : EndedSo r.ending status
+      ended = ending_of r.ending status r.is
+
+      same : (e : HowEnded) → r.ending ≡ Some e → status ≡ e.status
+      same e ends =
+          let there : Some status ≡ Some e.status = ended_so r.ending e (Some status) r.is ends in
+          cc
+
+      by_goes : GoesBy words (sides old r.source r.sink) (sides new r.read r.filled) r.ending done next → Answered a old new status out ⊎ (status ≡ st.Vault fault.Memory)
+      by_goes (was_refused e ends refused idle) = absurd (not_refused status of (subst (λ (s : Status). IsRefused s) (sym (same e ends)) refused))
+      by_goes (was_unbegun e ends memory u idle) = inr (same e ends ∙ memory)
+      by_goes (not_read request asks unread idle) = absurd (not_unread request.command (ask.only request asks) unread.reads)
+      by_goes (was_milled request asks mills idle) = absurd (not_mill request.command mills.number (ask.only request asks) mills.asks)
       by_goes (was_run request asks ran is_done is_next) =
-          answered_turn a (task_of request.setting a ran.input) old new status out refl
-          (course_turn ran.input request.setting request.command r.sink r.filled (ask.only request asks) r.unwritten r.printed r.complete ran.course)
+          let complete : ended.by.status ≡ st.WriteFault → ⊥ = λ failed. r.complete (ap (λ (s : Status). Some s) (sym ended.status_is ∙ failed)) in
+          let course : Course clouds output (width_of old) (is_batch request.command) (items_by request.setting request.command ran.input) old new r.sink r.filled (Some ended.by) =
+          subst (λ (o : Option HowEnded). Course clouds output (width_of old) (is_batch request.command) (items_by request.setting request.command ran.input) old new r.sink r.filled o)
+          ended.ends ran.course in
+          let turn : OneTurn (task_of request.setting a ran.input) old new ended.by.status out =
+          course_turn ran.input request.setting request.command r.sink r.filled ended.by (ask.only request asks) r.unwritten r.printed complete course in
+          inl (subst (λ (s : Status). Answered a old new s out) ended.status_is
+          (answered_turn a (task_of request.setting a ran.input) old new ended.by.status out refl turn))
 
 -- ---- an act that stopped
 

@@ -1,15 +1,16 @@
 -- What a repair leaves after a drive.
-use Rattle.std.proofs.Common.{◌≡◌, ◌∙◌, ◌+◌, ℕ, None, Some, List, [], ◌∷◌, codes, refl, sym, ap, subst, arith}
+use Rattle.std.proofs.Common.{◌≡◌, ◌∙◌, ◌+◌, ℕ, false, None, Some, List, inl, inr, [], ◌∷◌, codes, refl, sym, ap, subst, arith}
 use Rattle.nc_state.specs.Vaults.{IsVault, Vault}
 use Rattle.nc_words.specs.declared.act.Act.{Act}
 use Rattle.nc_words.specs.declared.act.Act.TheVariants as act
 use Rattle.nc_words.specs.declared.act.Command.{Command}
 use Rattle.nc_words.specs.declared.act.Command.TheVariants as command
 use Rattle.nc_words.specs.Numbers.{IsNumber}
-use Rattle.nc_words.specs.Words.{AsksRepair, Means}
+use Rattle.nc_words.specs.Words.{AsksRepair, Means, arguments}
 use Rattle.nc_words.proofs.OneMeaning.{one_command}
 use Rattle.nc_memory.specs.declared.memory.MemFleet.{MemFleet}
 use Rattle.nc_memory.specs.Memory.{chunk_gets_of, contents_of, width_of}
+use Rattle.nc_vault.specs.declared.fault.Fault.TheVariants as fault
 use Rattle.nc_vault.specs.declared.reply.Reply.{Reply}
 use Rattle.nc_vault.specs.declared.reply.Reply.TheVariants as reply
 use Rattle.nc_vault.specs.Acting.{IsReplyTo}
@@ -53,10 +54,16 @@ asked_cloud n text cloud (command.Act (act.Restore first (Some second))) is mean
     absurd cc
 asked_cloud n text cloud (command.Act other) is means =
     one_command (cloud + 1) (codes "repair" ∷ text ∷ []) (command.Act other) (command.Act (act.Repair cloud)) means (asked_alone text cloud is)
+asked_cloud n text cloud command.Batch is means =
+    one_command (cloud + 1) (codes "repair" ∷ text ∷ []) command.Batch (command.Act (act.Repair cloud)) means (asked_alone text cloud is)
+asked_cloud n text cloud (command.Mill number) is means =
+    one_command (cloud + 1) (codes "repair" ∷ text ∷ []) (command.Mill number) (command.Act (act.Repair cloud)) means (asked_alone text cloud is)
 
-repair_asks : (n : ℕ) (text : List ℕ) (cloud : ℕ) → IsNumber text cloud → AskFor n (codes "repair" ∷ text ∷ []) (act.Repair cloud)
-repair_asks n text cloud is = record {
-  only = λ request asks. asked_cloud n text cloud request.command is asks.command.means;
+repair_asks : (n : ℕ) (words : List (List ℕ)) (text : List ℕ) (cloud : ℕ) → IsNumber text cloud → arguments words ≡ codes "repair" ∷ text ∷ []
+    → AskFor n words (act.Repair cloud)
+repair_asks n words text cloud is given = record {
+  only = λ request asks.
+      asked_cloud n text cloud request.command is (subst (λ (ws : List (List ℕ)). Means n ws request.command) given asks.command.means);
   reads_none = refl;
 }
 
@@ -65,7 +72,7 @@ repair_asks n text cloud is = record {
 record DidRepair (answer : Reply) (out : List ℕ) : Type 0 where
   files : ℕ
   is : answer ≡ reply.Repaired files
-  printed : out ≡ text_of (reply.Repaired files)
+  printed : out ≡ text_of false (reply.Repaired files)
 
 did_repair : (cloud : ℕ) (answer : Reply) (status : Status) (out : List ℕ) → IsReplyTo (act.Repair cloud) answer → status ≡ st.Ok → Ended answer status out → DidRepair answer out
 did_repair cloud (reply.Repaired files) status out kind ok (was_done done is said) = record { files = files; is = refl; printed = said }
@@ -134,8 +141,13 @@ pub acknowledged_repair : AcknowledgedRepair
 acknowledged_repair events old mid new outcomes text cloud o a ok =
     let before : HistoryStands (width_of old) (history_of a.drive) empty_vault (contents_of mid) = nothing_begins events old mid outcomes a.drive in
     let of : OfVault o.status = subst (λ (s : Status). OfVault s) (sym ok) tt in
-    let g : Answered (act.Repair cloud) mid new o.status o.out =
-    run_answered (codes "repair" ∷ text ∷ []) (act.Repair cloud) a.given mid new o.status o.out (repair_asks (width_of mid) text cloud a.is_number) of a.run.done a.run.next a.run.runs in
     let wide : width_of mid ≡ width_of old = a.drive.driven.width in
     let here : IsVault (width_of mid) before.vault = subst (λ (k : ℕ). IsVault k before.vault) (sym wide) before.stands in
-    (before, subst (λ (k : ℕ). Repaired k cloud before.vault mid new o.out) wide (repaired cloud mid new o.status o.out g before.vault before.contents here ok))
+    elim (run_answered a.words (act.Repair cloud) a.given mid new o.status o.out (repair_asks (width_of mid) a.words text cloud a.is_number a.asks) of
+    a.run.done a.run.next a.run.runs) [
+      | inl g ↦
+          (before, subst (λ (k : ℕ). Repaired k cloud before.vault mid new o.out) wide (repaired cloud mid new o.status o.out g before.vault before.contents here ok))
+      | inr memory ↦
+          let wrong : st.Ok ≡ st.Vault fault.Memory = sym ok ∙ memory in
+          absurd cc
+    ]

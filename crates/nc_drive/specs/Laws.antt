@@ -1,5 +1,5 @@
 -- What a drive from clouds without objects leaves, and what a get finds then.
-use Rattle.std.specs.Prelude.{ℕ, ◌≡◌, Some, None, List, [], ◌∷◌, codes}
+use Rattle.std.specs.Prelude.{ℕ, ◌≡◌, false, Some, None, List, [], ◌∷◌, codes}
 use Rattle.nc_cloud.specs.Contents.{nothing}
 use Rattle.nc_state.specs.Clouds.{Clouds, no_cloud}
 use Rattle.nc_state.specs.Showing.{AreBearable}
@@ -7,6 +7,7 @@ use Rattle.nc_state.specs.Vaults.{IsVault, Vault}
 use Rattle.nc_words.specs.declared.act.Act.TheVariants as act
 use Rattle.nc_words.specs.Acts.{Task}
 use Rattle.nc_words.specs.Numbers.{IsNumber}
+use Rattle.nc_words.specs.Words.{arguments}
 use Rattle.nc_memory.specs.declared.memory.MemFleet.{MemFleet}
 use Rattle.nc_memory.specs.Memory.{chunk_gets_of, contents_of, width_of}
 use Rattle.nc_vault.specs.declared.fault.Fault.{Fault}
@@ -15,7 +16,7 @@ use Rattle.nc_vault.specs.declared.reply.Reply.TheVariants as reply
 use Rattle.nc_vault.specs.Counting.{TookFrom, chunks_from, failing_in}
 use Rattle.nc_vault.specs.Replies.{CountsFiles}
 use Rattle.nc_run.specs.declared.status.Status.TheVariants as status
-use Rattle.nc_run.specs.Running.{IsWide}
+use Rattle.nc_run.specs.Sides.{IsWide}
 use Rattle.nc_run.specs.Texts.{text_of}
 use Rattle.nc_history.specs.Histories.{Happening, LosesFew, damaged_by, empty_vault}
 use Rattle.nc_history.specs.Repairs.{DoesRepair, FilesAreGood, IsMadeWhole}
@@ -50,12 +51,15 @@ abbrev pub damaged_in : List Happening → Clouds → Clouds
 damaged_in [] D = D
 damaged_in (h ∷ hs) D = damaged_in hs (damaged_by h D)
 
--- The run after it was a get of the name, which became this; the clouds that failed in it and the damaged ones are at most two.
+-- The run after it was a get of the name, with any options, and became this; the clouds that failed in it and the damaged ones are at
+-- most two.
 pub record GetAfter (events : List Event) (old mid new : MemFleet) (outcomes : List Outcome) (name : List ℕ) (o : Outcome) : Type 0 where
   pub drive : DrivenFromNothing events old mid outcomes
+  pub words : List (List ℕ)
+  pub asks : arguments words ≡ codes "get" ∷ name ∷ []
   pub given : List ℕ
   pub happening : Happening
-  pub run : RunBecame (codes "get" ∷ name ∷ []) given mid new o happening
+  pub run : RunBecame words given mid new o happening
   pub bearable : AreBearable (width_of old) (damaged_in (history_of drive) no_cloud) (failing_in clouds (act.Get name) mid new)
 
 -- Bytes that it prints are those of the last put of the name that was done, or of one since that was begun and not done.
@@ -85,14 +89,16 @@ PutIsPrinted = (events : List Event) (old mid new : MemFleet) (outcomes : List O
 
 -- ---- a repair
 
--- The run after it was a repair of the cloud whose number is this text, which became this.
+-- The run after it was a repair of the cloud whose number is this text, with any options, and became this.
 pub record RepairAfter (events : List Event) (old mid new : MemFleet) (outcomes : List Outcome) (text : List ℕ) (cloud : ℕ)
     (o : Outcome) : Type 0 where
   pub drive : DrivenFromNothing events old mid outcomes
   pub is_number : IsNumber text cloud
+  pub words : List (List ℕ)
+  pub asks : arguments words ≡ codes "repair" ∷ text ∷ []
   pub given : List ℕ
   pub happening : Happening
-  pub run : RunBecame (codes "repair" ∷ text ∷ []) given mid new o happening
+  pub run : RunBecame words given mid new o happening
 
 -- A repair of the cloud was done on the vault V, and printed how many files V has: of each, every other cloud gave one of its two
 -- chunks, and the cloud itself none. What the clouds hold then stands for a vault in which the code of each file has a witness for
@@ -100,7 +106,7 @@ pub record RepairAfter (events : List Event) (old mid new : MemFleet) (outcomes 
 pub record Repaired (n cloud : ℕ) (V : Vault) (mid new : MemFleet) (out : List ℕ) : Type 0 where
   pub files : ℕ
   pub counts : CountsFiles n V files
-  pub printed : out ≡ text_of (reply.Repaired files)
+  pub printed : out ≡ text_of false (reply.Repaired files)
   pub took : TookFrom n (chunk_gets_of mid) (chunk_gets_of new) (chunks_from (act.Repair cloud) files)
   pub task : Task
   pub left : Vault

@@ -1,5 +1,7 @@
 -- What becomes of an event.
-use Rattle.std.specs.Prelude.{ℕ, ◌≡◌, ◌<◌, ◌≤◌, ◌+◌, ◌++◌, Option, None, List, [], ◌∷◌, length, map, string_bytes}
+use Rattle.std.specs.Prelude.{ℕ, ◌≡◌, ◌<◌, ◌≤◌, ◌+◌, ◌++◌, Option, None, Some, IfSome, List, [], ◌∷◌, length, map, string_bytes}
+use Rattle.std.specs.Option.{option_map}
+use Rattle.nc_vault.specs.declared.fault.Fault.TheVariants as fault
 use Rattle.nc_words.specs.declared.act.Request.{Request}
 use Rattle.nc_words.specs.Words.{Asks}
 use Rattle.nc_stream.specs.declared.memory.MemSink.{MemSink}
@@ -14,11 +16,13 @@ use Rattle.nc_memory.specs.Record.{counted}
 use Rattle.nc_memory.specs.Rounds.{round_place, rounds_in}
 use Rattle.nc_memory.specs.Stops.{cut}
 use Rattle.nc_run.specs.declared.status.Status.{Status}
-use Rattle.nc_run.specs.declared.status.Status.TheVariants.{Ok, WriteFault}
-use Rattle.nc_run.specs.Ending.{IsRefused}
-use Rattle.nc_run.specs.Running.{IsAnswered, Ran, Sides, Unread, sides}
+use Rattle.nc_run.specs.declared.status.Status.TheVariants.{Ok, WriteFault, Vault}
+use Rattle.nc_run.specs.Ending.{HowEnded, IsRefused}
+use Rattle.nc_run.specs.Milling.{Mills}
+use Rattle.nc_run.specs.Running.{IsAnswered, Ran, Unbegun, Unread}
+use Rattle.nc_run.specs.Sides.{Sides, sides}
 use Rattle.nc_run.specs.Standing.{task_in, tasks_of}
-use Rattle.nc_run.specs.Turns.{TakesAll, TakesNext, Turn, turns_of}
+use Rattle.nc_run.specs.Turns.{TakesAll, TakesNext, Turn}
 use Rattle.nc_history.specs.Histories.{Happening}
 use Rattle.nc_history.specs.Histories.Happening.{Lost, Ran as Acts}
 use Rattle.nc_drive.specs.declared.event.Event.{Event}
@@ -28,19 +32,33 @@ use Rattle.nc_drive.specs.Fleets.{clouds, input, left_of, output, written_to}
 
 -- ---- a run
 
--- The words were refused, their input wasn't read, or what they ask for was done: these acts, and the next one wasn't.
-pub data GoesBy (words : List (List ℕ)) (old new : Sides MemFleet MemSource MemSink) (status : Status)
-    (done : List (Turn MemFleet)) (next : Option (Turn MemFleet)) : Type 0 where
-  was_refused : IsRefused status → done ≡ [] → next ≡ None → GoesBy words old new status done next
-  not_read : (request : Request) → Asks (width_of old.fleet) words request → Unread input request.command old new status
-      → done ≡ [] → next ≡ None → GoesBy words old new status done next
-  was_run : (request : Request) → Asks (width_of old.fleet) words request
-      → (ran : Ran clouds input output request old new status)
-      → done ≡ ran.course.done → next ≡ ran.course.next → GoesBy words old new status done next
+-- no act was begun
+pub record NoActs (done : List (Turn MemFleet)) (next : Option (Turn MemFleet)) : Type 0 where
+  pub none : done ≡ []
+  pub none_next : next ≡ None
 
--- A run of these words with this input, whose output didn't fail, ended so and printed this; these acts were answered Ok, and the
--- next one wasn't.
-pub record Runs (words : List (List ℕ)) (given : List ℕ) (old new : MemFleet) (status : Status) (out : List ℕ)
+-- The words were refused, memory ran out while they were read, their input wasn't read, a mill was done, or what they ask for was:
+-- these acts, and the next one wasn't, or the run was let go no further after it.
+pub data GoesBy (words : List (List ℕ)) (old new : Sides MemFleet MemSource MemSink) (result : Option HowEnded)
+    (done : List (Turn MemFleet)) (next : Option (Turn MemFleet)) : Type 0 where
+  was_refused : (e : HowEnded) → result ≡ Some e → IsRefused e.status → NoActs done next → GoesBy words old new result done next
+  was_unbegun : (e : HowEnded) → result ≡ Some e → e.status ≡ Vault fault.Memory → Unbegun old new e → NoActs done next
+      → GoesBy words old new result done next
+  not_read : (request : Request) → Asks (width_of old.fleet) words request → Unread input request.command old new result
+      → NoActs done next → GoesBy words old new result done next
+  was_milled : (request : Request) → Asks (width_of old.fleet) words request → Mills clouds output request old new result
+      → NoActs done next → GoesBy words old new result done next
+  was_run : (request : Request) → Asks (width_of old.fleet) words request
+      → (ran : Ran clouds input output request old new result)
+      → done ≡ ran.course.done → next ≡ ran.course.next → GoesBy words old new result done next
+
+-- its status, where it has one
+abbrev pub status_in : Option HowEnded → Option Status
+status_in ending = option_map (λ e. e.status) ending
+
+-- A run of these words with this input, whose output didn't fail, printed this and ended so: with a status, or let go no further, with
+-- none. These acts were answered Ok, and the next one came after them.
+pub record Runs (words : List (List ℕ)) (given : List ℕ) (old new : MemFleet) (result : Option Status) (out : List ℕ)
     (done : List (Turn MemFleet)) (next : Option (Turn MemFleet)) : Type 0 where
   pub source : MemSource
   pub read : MemSource
@@ -48,11 +66,13 @@ pub record Runs (words : List (List ℕ)) (given : List ℕ) (old new : MemFleet
   pub filled : MemSink
   pub unread : left_of source ≡ given
   pub unwritten : written_to sink ≡ []
-  pub answered : IsAnswered clouds input output words
-      (sides old source sink) (sides new read filled) status
-  pub goes : GoesBy words (sides old source sink) (sides new read filled) status done next
+  pub answered : IfSome result (IsAnswered clouds input output words
+      (sides old source sink) (sides new read filled))
+  pub ending : Option HowEnded
+  pub is : status_in ending ≡ result
+  pub goes : GoesBy words (sides old source sink) (sides new read filled) ending done next
   pub printed : written_to filled ≡ out
-  pub complete : status ≡ WriteFault → ⊥
+  pub complete : result ≡ Some WriteFault → ⊥
 
 -- what happened by acts that were done, and the next one, which was begun
 abbrev pub acts : List (Turn MemFleet) → Option (Turn MemFleet) → Happening
@@ -62,7 +82,7 @@ acts done next = Acts (tasks_of done) (task_in next)
 pub record RunBecame (words : List (List ℕ)) (given : List ℕ) (old new : MemFleet) (o : Outcome) (h : Happening) : Type 0 where
   pub done : List (Turn MemFleet)
   pub next : Option (Turn MemFleet)
-  pub runs : Runs words given old new o.status o.out done next
+  pub runs : Runs words given old new (Some o.status) o.out done next
   pub counts : o.done ≡ counted (length done)
   pub happens : h ≡ acts done next
 
@@ -76,13 +96,10 @@ place_in old ran round = round_place (log_of ran) (rounds_in (log_of old) + roun
 -- round leaves it. These acts were answered Ok before the round began, and the next one was under way in it.
 pub record IsStopped (words : List (List ℕ)) (given : List ℕ) (round : ℕ) (fates : List Torn) (old new : MemFleet)
     (done : List (Turn MemFleet)) (next : Option (Turn MemFleet)) : Type 0 where
-  pub status : Status
+  pub result : Option Status
   pub out : List ℕ
   pub ended : MemFleet
-  pub all : List (Turn MemFleet)
-  pub last : Option (Turn MemFleet)
-  pub runs : Runs words given old ended status out all last
-  pub parts : turns_of done next ≡ turns_of all last
+  pub runs : Runs words given old ended result out done next
   pub middle : MemFleet
   pub takes_all : TakesAll clouds old done middle
   pub takes_next : TakesNext clouds middle next ended

@@ -1,4 +1,4 @@
-ghost use Rattle.std.specs.Prelude.{◌≡◌, ◌<◌, ◌≤◌, ◌^◌, false, All, IfOk, map, string_bytes};
+ghost use Rattle.std.specs.Prelude.{◌≡◌, ◌<◌, ◌≤◌, ◌^◌, false, All, IfOk, IsSome, Some, map, string_bytes};
 ghost use Rattle.nc_memory.specs.Memory.{log_of, width_of};
 ghost use Rattle.nc_memory.specs.Moments.{now_of};
 ghost use Rattle.nc_memory.specs.Rounds.{round_place, rounds_in};
@@ -19,11 +19,11 @@ use nc_stream::{MemSink, MemSource};
 use std::alloc::Global;
 use std::thread::Threads;
 
-/// How a run ended: its status, what it printed, how many of its acts a watcher let pass, and how
-/// long the record was at the end of the last of them.
+/// How a run ended: its status, or none where its watcher ended it, what it printed, how many of its
+/// acts the watcher let pass, and how long the record was at the end of the last of them.
 #[derive(Debug, Drop)]
 struct Ending {
-    status: Status,
+    status: Option<Status>,
     out: Blob,
     done: u64,
     since: u64,
@@ -168,7 +168,12 @@ fn told_rounds(fleet: &MemFleet)
 }
 
 /// How a run ended.
-fn told_end(alloc: Global, status: Status, out: &MemSink, limit: &Limit) -> Result<Ending, Memory>
+fn told_end(
+    alloc: Global,
+    status: Option<Status>,
+    out: &MemSink,
+    limit: &Limit,
+) -> Result<Ending, Memory>
     ensures ending { IfOk result (IsEnding status out.now limit.now) }
 {
     if lost_out(&status) {
@@ -183,14 +188,10 @@ fn told_end(alloc: Global, status: Status, out: &MemSink, limit: &Limit) -> Resu
 }
 
 /// The output failed.
-fn lost_out(status: &Status) -> bool
-    ensures { result ≡ false → status.now ≡ WriteFault → ⊥ }
+fn lost_out(status: &Option<Status>) -> bool
+    ensures { result ≡ false → status.now ≡ Some WriteFault → ⊥ }
 {
-    match status {
-        Status::WriteFault => true,
-        Status::Ok | Status::Width(_) | Status::Usage | Status::Name(_) => false,
-        Status::TooLong | Status::ReadFault | Status::Vault(_) => false,
-    }
+    matches!(status, Some(Status::WriteFault))
 }
 
 /// The fleet as a stop in this round leaves it, where so much of the record came before the round.
@@ -217,17 +218,27 @@ fn stopped_since(
 
 /// What became of a run that went to its end.
 fn whole(fleet: &MemFleet, end: Ending) -> Outcome
-    ensures status { result.status ≡ end.status }
+    requires ended { IsSome end.status }
+    ensures status { end.status ≡ Some result.status }
     ensures out { result.out ≡ end.out }
     ensures mark { result.mark ≡ now_of fleet.now }
     ensures done { result.done ≡ end.done }
 {
+    let Ending {
+        status,
+        out,
+        done,
+        ..
+    } = end;
+    let Some(status) = status else {
+        unreachable!();
+    };
     let mark = fleet.length();
     Outcome {
-        status: end.status,
-        out: end.out,
+        status,
+        out,
         mark,
-        done: end.done,
+        done,
     }
 }
 

@@ -148,7 +148,7 @@ fn a_run_without_the_round_is_a_run(rt: HostRuntime) -> Result<(), Fail> {
         stop(alloc, "scrub", b"", 1000, &[])?,
         stop(alloc, "look a", b"", 0, &[])?,
         stop(alloc, "put a", b"new!", 0, &[Torn::New])?,
-        run(alloc, "get a", b"")?,
+        run(alloc, "--workers 2 get -- a", b"")?,
     ];
     let outcomes = drive(&rt, alloc, &mut fleet, &events)?;
     let mut told = Vec::new(alloc);
@@ -172,6 +172,33 @@ fn a_run_without_the_round_is_a_run(rt: HostRuntime) -> Result<(), Fail> {
         ]
         .as_slice()
     );
+    Ok(())
+}
+
+#[test]
+fn the_lines_of_a_batch_are_acts_in_their_order(rt: HostRuntime) -> Result<(), Fail> {
+    let alloc = rt.alloc();
+    let mut fleet = MemFleet::new(alloc, 4)?;
+    let lines = b"put a 616263\nput b -\nget a\nrm b\nls";
+    let outcome = after(&rt, alloc, &mut fleet, run(alloc, "batch", lines)?)?;
+    assert!(rt; outcome.status.code() == 0 && outcome.done == 5);
+    let told = b"generation 1\ngeneration 1\n616263\ngeneration 2\n3 a\n";
+    assert_eq!(rt; outcome.out.bytes(), told.as_slice());
+    Ok(())
+}
+
+#[test]
+fn a_batch_without_the_round_ends_at_a_line_that_asks_for_nothing(
+    rt: HostRuntime,
+) -> Result<(), Fail> {
+    let alloc = rt.alloc();
+    let mut fleet = MemFleet::new(alloc, 4)?;
+    let whole = stop(alloc, "batch", b"put a 61\nget a\n", 1000, &[])?;
+    let outcome = after(&rt, alloc, &mut fleet, whole)?;
+    assert_eq!(rt; outcome.out.bytes(), b"generation 1\n61\n".as_slice());
+    let broken = stop(alloc, "batch", b"get a\nlook a\nrm a\n", 1000, &[])?;
+    let outcome = after(&rt, alloc, &mut fleet, broken)?;
+    assert!(rt; outcome.status.code() == 2 && outcome.done == 1);
     Ok(())
 }
 
@@ -260,6 +287,79 @@ fn giving(
     stop(alloc, words.as_str(), value, round, &fates)
 }
 
+/// A name and a value for it by chance.
+fn some_gave(alloc: Global, state: &mut u32) -> Result<Gave, Fail> {
+    let name = next(state) % 3;
+    let value = if next(state) < 64 {
+        Vec::new(alloc)
+    } else {
+        some_bytes(alloc, state)?
+    };
+    Ok(Gave {
+        name,
+        value,
+        done: false,
+    })
+}
+
+/// A hexadecimal digit.
+fn digit(value: u8) -> u8 {
+    if value < 10 {
+        b'0'.wrapping_add(value)
+    } else {
+        b'a'.wrapping_add(value).wrapping_sub(10)
+    }
+}
+
+/// The line of a batch that gives a name a value.
+fn line_of(alloc: Global, gave: &Gave) -> Result<Vec<u8>, Fail> {
+    let word = if gave.value.is_empty() { "rm" } else { "put" };
+    let words = format!(in alloc; "{word} {}", letter(gave.name))?;
+    let mut line = Vec::new(alloc);
+    line.extend_from_slice(words.as_str().as_bytes())?;
+    if !gave.value.is_empty() {
+        line.push(b' ')?;
+    }
+    for byte in gave.value.as_slice() {
+        line.push(digit(*byte / 16))?;
+        line.push(digit(*byte % 16))?;
+    }
+    line.push(b'\n')?;
+    Ok(line)
+}
+
+/// A batch of two lines that give values, stopped in one of its rounds or not.
+fn batching<R: Threads + Sync>(
+    rt: &R,
+    alloc: Global,
+    fleet: &mut MemFleet,
+    state: &mut u32,
+    acts: &mut Vec<Gave>,
+) -> Result<bool, Fail>
+    requires wide { width_of fleet.old ≡ 4 }
+    ensures { IfOk result (λ good. width_of fleet.new ≡ 4) }
+{
+    let mut first = some_gave(alloc, state)?;
+    let mut second = some_gave(alloc, state)?;
+    let mut lines = line_of(alloc, &first)?;
+    lines.extend_from_slice(line_of(alloc, &second)?.as_slice())?;
+    let event = if next(state) < 128 {
+        run(alloc, "batch", lines.as_slice())?
+    } else {
+        let round = u64::from(next(state) % 16);
+        let fates = [fate(state), fate(state), fate(state), fate(state)];
+        stop(alloc, "batch", lines.as_slice(), round, &fates)?
+    };
+    let done = after(rt, alloc, fleet, event)?.done;
+    first.done = 1 <= done;
+    acts.push(first)?;
+    if 1 <= done {
+        second.done = 2 <= done;
+        acts.push(second)?;
+    }
+    Ok(done <= 2)
+}
+
 /// The loss of some cloud, where at most two are damaged then.
 fn losing<R: Threads + Sync>(
     rt: &R,
@@ -330,7 +430,10 @@ fn chance<R: Threads + Sync>(
     ensures { IfOk result (λ good. width_of fleet.new ≡ 4) }
 {
     let name = next(state) % 3;
-    let kind = next(state) % 12;
+    let kind = next(state) % 14;
+    if 12 <= kind {
+        return batching(rt, alloc, fleet, state, &mut known.acts);
+    }
     if 9 <= kind {
         return repairing(rt, alloc, fleet, state, &mut known.damaged);
     }

@@ -2,7 +2,7 @@ use Rattle.std.proofs.Common.{◌≡◌, ◌≤◌, ◌<◌, ◌+◌, arith}
 use Rattle.nc_memory.specs.Memory.{log_of}
 use Rattle.nc_memory.specs.Rounds.{rounds_in}
 use Rattle.nc_drive.specs.declared.event.Event.TheVariants.{Stop}
-use Rattle.nc_drive.proofs.DriveLaws.{happens_by, not_stopped, stopped}
+use Rattle.nc_drive.proofs.DriveLaws.{happens_by, has_status, not_stopped, stopped}
 use Rattle.nc_drive.proofs.driving.stop_event.Goals as goal
 
 pub returns-then-rounds-at : goal.returns-then-rounds-at
@@ -27,3 +27,9 @@ returns g c =
           is has_round c.in_ok-fleet.ensures.since c.in_ok-fleet.ensures.cut c.in_ok-fleet.ensures.leaves c.in_ok-fleet.ensures.width
           c.quiet.ensures.quiet c.quiet.ensures.mark c.quiet.ensures.done);
     }
+
+pub whole-requires : goal.whole-requires
+whole-requires g c = record {
+  ended = has_status _ c.args.input.now c.saturating_add-at.result c.args.fleet.now c.run_until.new.fleet c.in_ok-end.end c.in_ok-end.ensures.runs
+      (omega (arith, c.if-rounds-at.true, c.rounds-2.ensures));
+}
