@@ -29,6 +29,8 @@ fn main_joins_these_parts(rt: HostRuntime) -> Result<(), Fail> {
     for (status, code) in [
         (Status::Ok, 0),
         (Status::Usage, 2),
+        (Status::BatchLine(4), 2),
+        (Status::Vault(Fault::Memory), 1),
         (Status::WriteFault, 9),
         (Status::Vault(damaged), 10),
         (Status::Vault(Fault::Worn), 12),

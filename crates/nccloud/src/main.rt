@@ -1,4 +1,5 @@
-//! The program: `nccloud CLOUDS WORDS` does what the words ask for on clouds that are folders, as `put NAME` and `get NAME`.
+//! The program: `nccloud CLOUDS WORDS` does what the words ask for on clouds that are folders, as `put NAME` and `get NAME`, and
+//! tells a fault by a line on standard error.
 #![tactic(auto)]
 
 mod edges;
@@ -7,7 +8,7 @@ mod edges_tests;
 
 use crate::edges::{after_first, ending, folders};
 use nc_cloud::Fanned;
-use nc_run::{Status, run};
+use nc_run::{Status, run, tell_early};
 use nc_stream::{StdSink, StdSource};
 use nc_vault::Fault;
 use std::env;
@@ -17,22 +18,22 @@ use std::rt::Env;
 
 fn main(rt: HostRuntime) -> ExitCode {
     let alloc = rt.alloc();
+    let mut err = StdSink::new(rt.stderr());
     let line = match command_line(&rt) {
         Ok(line) => line,
-        Err(status) => return ending(&status),
+        Err(status) => return ending(&tell_early(&mut err, status)),
     };
     let words = after_first(line.as_slice());
     let clouds = match folders(rt, words) {
         Ok(clouds) => clouds,
-        Err(_) => return ending(&Status::Vault(Fault::Memory)),
+        Err(_) => return ending(&tell_early(&mut err, Status::Vault(Fault::Memory))),
     };
     let mut fleet = match Fanned::new(rt, alloc, clouds) {
         Ok(fleet) => fleet,
-        Err(_) => return ending(&Status::Vault(Fault::Memory)),
+        Err(_) => return ending(&tell_early(&mut err, Status::Vault(Fault::Memory))),
     };
     let mut source = StdSource::new(rt.stdin());
     let mut out = StdSink::new(rt.stdout());
-    let mut err = StdSink::new(rt.stderr());
     let status = run(
         &rt,
         alloc,
