@@ -1,6 +1,6 @@
 //! Removing, listing, telling and settling, and what is left on the clouds.
 
-use crate::player::play;
+use nc_stage::play;
 use std::test::Fail;
 
 #[test]
@@ -17,18 +17,18 @@ fn a_file_is_told_until_it_is_removed(rt: HostRuntime) -> Result<(), Fail> {
         unchanged
         rm a -> 0 Ok = generation:2
         each holds m-61-0
-        rm a -> 3 Vault(NoFile)
+        rm a -> 3 no such file
         unchanged
-        stat a -> 3 Vault(NoFile)
-        get a -> 3 Vault(NoFile)
+        stat a -> 3 no such file
+        get a -> 3 no such file
         ls -> 0 Ok
         put a < "x" -> 0 Ok = generation:3
         each holds m-61-1 c-61-0-0 c-61-0-1
 
         # a name that was never stored has no file, and is left without an object
         clouds 4
-        rm a -> 3 Vault(NoFile)
-        stat a -> 3 Vault(NoFile)
+        rm a -> 3 no such file
+        stat a -> 3 no such file
         ls -> 0 Ok
         recover -> 0 Ok = "settled·0¶"
         objects 0
@@ -61,6 +61,7 @@ fn a_put_that_stopped_in_its_metadata_is_settled(rt: HostRuntime) -> Result<(), 
         put a < "old" -> 0 Ok = generation:1
         stopped in round 4 leaving new old old old: put a < "new!"
         stat a -> 0 Ok = "generation·2·length·4·witnesses·yes¶"
+        failing 1 5: get a -> 0 Ok = "old" leaving 21 21 21 21
         lose 0
         recover -> 0 Ok = "settled·1¶"
         get a -> 0 Ok = "old"
@@ -143,16 +144,16 @@ fn one_failing_cloud_ends_recover_and_three_end_ls(rt: HostRuntime) -> Result<()
         # a list or a look that fails ends recover; of ls, three clouds do
         clouds 4
         put a < "abcdefgh" -> 0 Ok = generation:1
-        failing 1: recover -> 4 Vault(Cloud(0)) leaving 12 12 12 12
-        failing 4 2: recover -> 4 Vault(Cloud(1)) leaving 12 12 12 12
-        failing 7: recover -> 4 Vault(Cloud(2)) leaving 12 12 12 12
+        failing 1: recover -> 4 after 0 names: cloud 0 failed leaving 12 12 12 12
+        failing 4 2: recover -> 4 after 0 names: cloud 1 failed leaving 12 12 12 12
+        failing 7: recover -> 4 after 0 names: cloud 2 failed leaving 12 12 12 12
         failing 2: ls -> 0 Ok = "8·a¶" leaving 12 12 12 12
         failing 2 3: ls -> 0 Ok = "8·a¶" leaving 12 12 12 12
         failing 2 5: ls -> 0 Ok = "8·a¶" leaving 12 12 12 12
-        failing 1 2 4: ls -> 4 Vault(Cloud(0)) leaving 12 12 12 12
-        failing 2 6 7: ls -> 4 Vault(Cloud(1)) leaving 12 12 12 12
+        failing 1 2 4: ls -> 4 after 0 names: cloud 0 failed leaving 12 12 12 12
+        failing 2 6 7: ls -> 4 after 0 names: cloud 1 failed leaving 12 12 12 12
         failing 3 5: stat a -> 0 Ok = "generation·1·length·8·witnesses·yes¶" leaving 12 12 12 12
-        failing 2 5 8: stat a -> 4 Vault(Cloud(0)) leaving 12 12 12 12
+        failing 2 5 8: stat a -> 4 cloud 0 failed leaving 12 12 12 12
         "#,
     )
 }
@@ -165,10 +166,10 @@ fn removals_that_stop_or_are_refused(rt: HostRuntime) -> Result<(), Fail> {
         # a removal that fails in its metadata, and one that stops there
         clouds 4
         put a < "abcdefgh" -> 0 Ok = generation:1
-        failing 10: rm a -> 4 Vault(Cloud(1)) leaving 15 16 15 16
+        failing 10: rm a -> 4 cloud 1 failed leaving 15 16 15 16
         stopped in round 2 leaving new old broken gone: rm a
         ls -> 0 Ok
-        rm a -> 3 Vault(NoFile)
+        rm a -> 3 no such file
         each holds m-61-0 m-61-1 c-61-0-0 c-61-0-1
         recover -> 0 Ok = "settled·1¶"
         each holds m-61-0
@@ -179,7 +180,7 @@ fn removals_that_stop_or_are_refused(rt: HostRuntime) -> Result<(), Fail> {
         seal each c-61-0-1 "cd" "gh" 040c adb4
         seal all m-61-0 live:18446744073709551614
         stat a -> 0 Ok = "generation·18446744073709551614·length·8·witnesses·no¶"
-        rm a -> 12 Vault(Worn)
+        rm a -> 12 the name's generations are used up
         unchanged
         "#,
     )
@@ -195,17 +196,17 @@ fn contradicting_metadata_is_told(rt: HostRuntime) -> Result<(), Fail> {
         put b < "abc" -> 0 Ok = generation:1
         seal 0 m-61-1 gone:3
         seal 2 m-61-1 live:3
-        rm a -> 11 Vault(Conflict { generation: 3, a: 0, b: 2 })
+        rm a -> 11 clouds 0 and 2 differ at generation 3
         unchanged
-        recover -> 11 Vault(Conflict { generation: 3, a: 0, b: 2 })
+        recover -> 11 after 0 names: clouds 0 and 2 differ at generation 3
         unchanged
-        stat a -> 11 Vault(Conflict { generation: 3, a: 0, b: 2 })
-        ls -> 11 Vault(Conflict { generation: 3, a: 0, b: 2 })
+        stat a -> 11 clouds 0 and 2 differ at generation 3
+        ls -> 11 after 0 names: clouds 0 and 2 differ at generation 3
         lose 2 m-61-1
         copy 0 m-61-1 to 3
-        rm a -> 11 Vault(Misplaced { cloud: 3, said_cloud: 0, said_width: 4 })
+        rm a -> 11 cloud 3 holds objects of cloud 0 of 4
         unchanged
-        stat a -> 3 Vault(NoFile)
+        stat a -> 3 no such file
         ls -> 0 Ok = "3·b¶"
         "#,
     )

@@ -1,6 +1,6 @@
 //! What a get gives, with clouds lost, spoiled or failing.
 
-use crate::player::play;
+use nc_stage::play;
 use std::test::Fail;
 
 #[test]
@@ -60,7 +60,7 @@ fn an_output_gets_the_bytes_until_it_fails(rt: HostRuntime) -> Result<(), Fail> 
         put a < "abcdefgh" -> 0 Ok = generation:1
         writes up to 5
         write 2 fails
-        get a -> 9 WriteFault = "abcde"
+        get a -> 9 the output failed = "abcde"
         unchanged
         "#,
     )
@@ -78,8 +78,8 @@ fn metadata_that_is_not_whole_is_passed_over(rt: HostRuntime) -> Result<(), Fail
         cut 1 m-61-1
         cut 2 m-61-1
         cut 3 m-61-1
-        get a -> 3 Vault(NoFile)
-        get b -> 3 Vault(NoFile)
+        get a -> 3 no such file
+        get b -> 3 no such file
 
         # metadata of another cloud beside metadata of the clouds' own is passed over
         clouds 4
@@ -91,7 +91,7 @@ fn metadata_that_is_not_whole_is_passed_over(rt: HostRuntime) -> Result<(), Fail
 }
 
 #[test]
-fn two_spoiled_clouds_are_passed_over(rt: HostRuntime) -> Result<(), Fail> {
+fn two_spoiled_clouds_are_passed_over_and_three_are_listed(rt: HostRuntime) -> Result<(), Fail> {
     play(
         &rt,
         r#"
@@ -119,33 +119,25 @@ fn two_spoiled_clouds_are_passed_over(rt: HostRuntime) -> Result<(), Fail> {
         cut 1 c-61-0-1
         seal 3 c-61-0-1 9177
         get a -> 0 Ok = "abcdefgh"
-        "#,
-    )
-}
 
-#[test]
-fn three_spoiled_clouds_are_listed(rt: HostRuntime) -> Result<(), Fail> {
-    play(
-        &rt,
-        r#"
         # more spoiled clouds are listed, each with its cause
         clouds 4
         put a < "abcdefgh" -> 0 Ok = generation:1
         lose 0 c-61-0-0
         cut 1 c-61-0-1
         copy 3 c-61-0-0 to 2
-        get a -> 5 Short: 0 row 0 Missing, 1 row 1 Broken, 2 row 0 Broken
+        get a -> 5 too few clouds: 0 row 0 missing, 1 row 1 broken, 2 row 0 broken
         seal 0 c-61-0-0 442a
         seal 3 c-61-0-1 9177
-        get a -> 5 Short: 1 row 1 Broken, 2 row 0 Broken, 3 row 1 Marked
+        get a -> 5 too few clouds: 1 row 1 broken, 2 row 0 broken, 3 row 1 changed
         seal 1 c-61-0-1 d759
         lose 0 c-61-0-0
-        get a -> 5 Short: 0 row 0 Missing, 2 row 0 Broken, 3 row 1 Marked
+        get a -> 5 too few clouds: 0 row 0 missing, 2 row 0 broken, 3 row 1 changed
         seal 2 c-61-0-0 d47e
         cut 1 c-61-0-1
-        get a -> 5 Short: 0 row 0 Missing, 1 row 1 Broken, 3 row 1 Marked
+        get a -> 5 too few clouds: 0 row 0 missing, 1 row 1 broken, 3 row 1 changed
         copy 3 c-61-0-0 to 2
-        get a -> 5 Short: 0 row 0 Missing, 1 row 1 Broken, 2 row 0 Broken, 3 row 1 Marked
+        get a -> 5 too few clouds: 0 row 0 missing, 1 row 1 broken, 2 row 0 broken, 3 row 1 changed
 
         # each bad cloud is told by its first cause
         clouds 4
@@ -155,13 +147,13 @@ fn three_spoiled_clouds_are_listed(rt: HostRuntime) -> Result<(), Fail> {
         seal 1 c-61-0-1 67
         seal 2 as 3 of 4 c-61-0-0 0404
         seal 3 c-61-0-0 040c
-        get a -> 5 Short: 0 row 0 Missing, 1 row 1 Broken, 2 row 0 Broken, 3 row 0 Marked
+        get a -> 5 too few clouds: 0 row 0 missing, 1 row 1 broken, 2 row 0 broken, 3 row 0 changed
         "#,
     )
 }
 
 #[test]
-fn two_failing_clouds_are_borne(rt: HostRuntime) -> Result<(), Fail> {
+fn two_failing_clouds_are_borne_and_three_are_told(rt: HostRuntime) -> Result<(), Fail> {
     play(
         &rt,
         r#"
@@ -186,28 +178,20 @@ fn two_failing_clouds_are_borne(rt: HostRuntime) -> Result<(), Fail> {
         entry 11 fails leaving old
         get a -> 0 Ok = "abcdefgh"
         gets of chunks 1 2 2 0
-        "#,
-    )
-}
 
-#[test]
-fn three_failing_clouds_are_told(rt: HostRuntime) -> Result<(), Fail> {
-    play(
-        &rt,
-        r#"
         # three that fail in the look end it, and the least is named; that fail later, they are listed
         clouds 4
         put a < "abcdefgh" -> 0 Ok = generation:1
-        failing 1 2 3: get a -> 4 Vault(Cloud(0)) leaving 12 12 12 12
-        failing 2 3 8: get a -> 4 Vault(Cloud(1)) leaving 12 12 12 12
-        failing 1 2 3 5 6 7: get a -> 4 Vault(Cloud(0)) leaving 12 12 12 12
-        failing 1 2 9: get a -> 5 Short: 0 failed, 1 failed, 2 failed leaving 12 12 12 12
-        failing 9 10 12: get a -> 5 Short: 0 failed, 1 failed, 3 failed leaving 12 12 12 12
-        failing 8 11 12 14: get a -> 5 Short: 0 failed, 1 failed, 2 failed, 3 failed leaving 12 12 12 12
+        failing 1 2 3: get a -> 4 cloud 0 failed leaving 12 12 12 12
+        failing 2 3 8: get a -> 4 cloud 1 failed leaving 12 12 12 12
+        failing 1 2 3 5 6 7: get a -> 4 cloud 0 failed leaving 12 12 12 12
+        failing 1 2 9: get a -> 5 too few clouds: 0 failed, 1 failed, 2 failed leaving 12 12 12 12
+        failing 9 10 12: get a -> 5 too few clouds: 0 failed, 1 failed, 3 failed leaving 12 12 12 12
+        failing 8 11 12 14: get a -> 5 too few clouds: 0 failed, 1 failed, 2 failed, 3 failed leaving 12 12 12 12
         lose 1
         failing 1: get a -> 0 Ok = "abcdefgh" leaving 9 9 9 9
         failing 1 9: get a -> 0 Ok = "abcdefgh" leaving 9 9 9 9
-        failing 1 12: get a -> 5 Short: 0 failed, 1 row 0 Missing, 3 failed leaving 9 9 9 9
+        failing 1 12: get a -> 5 too few clouds: 0 failed, 1 row 0 missing, 3 failed leaving 9 9 9 9
         "#,
     )
 }
@@ -225,11 +209,11 @@ fn no_more_clouds_are_asked_than_are_wanted(rt: HostRuntime) -> Result<(), Fail>
         get a -> 0 Ok = "abcdefgh"
         gets of chunks 0 0 2 2
         lose 2 c-61-0-0
-        get a -> 5 Short: 0 row 0 Missing, 1 row 0 Missing, 2 row 0 Missing
+        get a -> 5 too few clouds: 0 row 0 missing, 1 row 0 missing, 2 row 0 missing
         gets of chunks 0 0 0 2
         lose 2
         lose 3
-        get a -> 3 Vault(NoFile)
+        get a -> 3 no such file
 
         # of 7 and of 10 clouds no more are asked than are wanted
         clouds 7

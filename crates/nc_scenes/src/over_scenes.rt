@@ -1,6 +1,6 @@
 //! Puts over what a name has already.
 
-use crate::player::play;
+use nc_stage::play;
 use std::test::Fail;
 
 #[test]
@@ -148,14 +148,14 @@ fn a_file_that_does_not_come_back_is_replaced(rt: HostRuntime) -> Result<(), Fai
         lose 0 c-61-0-0
         cut 1 c-61-0-1
         lose 2 c-61-0-1
-        get a -> 5 Short: 0 row 0 Missing, 1 row 1 Broken, 2 row 1 Missing
+        get a -> 5 too few clouds: 0 row 0 missing, 1 row 1 broken, 2 row 1 missing
         put a < "abc" -> 0 Ok = generation:2
         without two: get a -> 0 Ok = "abc"
 
         # over a file whose code stands no loss
         clouds 4
         seal all m-61-1 unsound:1
-        get a -> 11 Vault(Unsound { a: 0, b: 1 })
+        get a -> 11 rows without clouds 0 and 1 are dependent
         put a < "abc" -> 0 Ok = generation:2
         without two: get a -> 0 Ok = "abc"
         "#,
@@ -179,7 +179,7 @@ fn the_highest_generation_counts(rt: HostRuntime) -> Result<(), Fail> {
         # a generation past the last one is none
         clouds 4
         seal all m-61-1 live:18446744073709551615
-        get a -> 3 Vault(NoFile)
+        get a -> 3 no such file
         put a < "abc" -> 0 Ok = generation:1
         objects 12
         "#,
@@ -196,9 +196,9 @@ fn the_last_generation_has_no_next_one(rt: HostRuntime) -> Result<(), Fail> {
         seal each c-61-0-0 "ab" "ef" 0404 abae
         seal each c-61-0-1 "cd" "gh" 040c adb4
         seal all m-61-0 live:18446744073709551614
-        put a < "abc" -> 12 Vault(Worn)
+        put a < "abc" -> 12 the name's generations are used up
         unchanged
-        within 1: put a < "abc" -> 12 Vault(Worn)
+        --budget 1 put a < "abc" -> 12 the name's generations are used up
         unchanged
         get a -> 0 Ok = "abcdefgh"
 
@@ -211,7 +211,7 @@ fn the_last_generation_has_no_next_one(rt: HostRuntime) -> Result<(), Fail> {
         lose 1 m-61-0
         lose 3 m-61-0
         objects 9
-        put a < "x" -> 12 Vault(Worn)
+        put a < "x" -> 12 the name's generations are used up
         objects 12
         get a -> 0 Ok = "abc"
         "#,
@@ -226,18 +226,18 @@ fn a_put_ends_where_no_candidate_is_good(rt: HostRuntime) -> Result<(), Fail> {
         # a put ends where no candidate is good, after the name is settled; at four clouds the first candidates of p for
         # generation 1 and of a for generation 37 aren't good, and the second are, by bench/plain.py
         clouds 4
-        within 1: put p < "abc" -> 6 Vault(Spent(1))
+        --budget 1 put p < "abc" -> 6 none of 1 candidates is good
         objects 0
-        within 64: put p < "abc" -> 0 Ok
+        put p < "abc" -> 0 Ok = generation:1
         objects 12
-        within 1: put p < "abc" -> 0 Ok
+        --budget 1 put p < "abc" -> 0 Ok = generation:2
         objects 12
         clouds 4
         seal 1 m-61-0 gone:36
-        within 1: put a < "abc" -> 6 Vault(Spent(1))
+        --budget 1 put a < "abc" -> 6 none of 1 candidates is good
         objects 4
         payloads m-61-0 gone:36 gone:36 gone:36 gone:36
-        within 2: put a < "abc" -> 0 Ok
+        --budget 2 put a < "abc" -> 0 Ok = generation:37
         objects 12
         get a -> 0 Ok = "abc"
         "#,

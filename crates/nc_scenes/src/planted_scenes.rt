@@ -3,7 +3,7 @@
 //!
 //! The chunks here are those of "abcdefgh" by the striped code, worked by hand from docs/FORMATS.md.
 
-use crate::player::play;
+use nc_stage::play;
 use std::test::Fail;
 
 #[test]
@@ -31,7 +31,7 @@ fn metadata_stands_in_the_slot_of_its_generation(rt: HostRuntime) -> Result<(), 
         seal each c-61-0-0 "ab" "ef" 0404 abae
         seal each c-61-0-1 "cd" "gh" 040c adb4
         seal all m-61-0 live:1
-        get a -> 3 Vault(NoFile)
+        get a -> 3 no such file
         put a < "abc" -> 0 Ok = generation:1
         objects 12
         get a -> 0 Ok = "abc"
@@ -39,7 +39,7 @@ fn metadata_stands_in_the_slot_of_its_generation(rt: HostRuntime) -> Result<(), 
         # an even generation in slot 1 is no metadata
         clouds 4
         seal 0 m-61-1 gone:2
-        get a -> 3 Vault(NoFile)
+        get a -> 3 no such file
         put a < "abc" -> 0 Ok = generation:1
         "#,
     )
@@ -53,7 +53,7 @@ fn the_highest_generation_counts(rt: HostRuntime) -> Result<(), Fail> {
         # a deleted file is none
         clouds 4
         seal 1 m-61-0 gone:2
-        get a -> 3 Vault(NoFile)
+        get a -> 3 no such file
 
         # the highest generation counts: a file that was deleted later
         clouds 4
@@ -61,7 +61,7 @@ fn the_highest_generation_counts(rt: HostRuntime) -> Result<(), Fail> {
         seal each c-61-0-1 "cd" "gh" 040c adb4
         seal all m-61-1 live:1
         seal 3 m-61-0 gone:2
-        get a -> 3 Vault(NoFile)
+        get a -> 3 no such file
 
         # the highest generation counts: a file that was deleted before, and lower ones aren't compared
         clouds 4
@@ -77,7 +77,7 @@ fn the_highest_generation_counts(rt: HostRuntime) -> Result<(), Fail> {
         seal 0 m-61-0 live:2
         seal 1 m-61-1 gone:3
         seal 3 m-61-1 gone:3
-        get a -> 3 Vault(NoFile)
+        get a -> 3 no such file
         "#,
     )
 }
@@ -93,8 +93,8 @@ fn a_conflict_is_told(rt: HostRuntime) -> Result<(), Fail> {
         seal 1 m-61-1 gone:3
         seal 2 m-61-1 live:3
         seal 3 m-61-0 gone:2
-        get a -> 11 Vault(Conflict { generation: 3, a: 0, b: 2 })
-        put a < "abc" -> 11 Vault(Conflict { generation: 3, a: 0, b: 2 })
+        get a -> 11 clouds 0 and 2 differ at generation 3
+        put a < "abc" -> 11 clouds 0 and 2 differ at generation 3
         unchanged
 
         # a conflict of the one generation that there is
@@ -102,8 +102,8 @@ fn a_conflict_is_told(rt: HostRuntime) -> Result<(), Fail> {
         seal 1 m-61-0 live:2
         seal 2 m-61-0 live:2
         seal 3 m-61-0 gone:2
-        get a -> 11 Vault(Conflict { generation: 2, a: 1, b: 3 })
-        put a < "abc" -> 11 Vault(Conflict { generation: 2, a: 1, b: 3 })
+        get a -> 11 clouds 1 and 3 differ at generation 2
+        put a < "abc" -> 11 clouds 1 and 3 differ at generation 2
         unchanged
         "#,
     )
@@ -119,34 +119,34 @@ fn metadata_of_elsewhere_is_told(rt: HostRuntime) -> Result<(), Fail> {
         put a < "abcdefgh" -> 0 Ok = generation:1
         copy 1 m-61-1 to 3
         get a -> 0 Ok = "abcdefgh"
-        put a < "abc" -> 11 Vault(Misplaced { cloud: 3, said_cloud: 1, said_width: 4 })
+        put a < "abc" -> 11 cloud 3 holds objects of cloud 1 of 4
         unchanged
         seal 0 m-61-0 gone:2
         seal 2 m-61-0 live:2
-        get a -> 11 Vault(Conflict { generation: 2, a: 0, b: 2 })
-        put a < "abc" -> 11 Vault(Misplaced { cloud: 3, said_cloud: 1, said_width: 4 })
+        get a -> 11 clouds 0 and 2 differ at generation 2
+        put a < "abc" -> 11 cloud 3 holds objects of cloud 1 of 4
         unchanged
 
         # metadata of another cloud alone is told
         clouds 4
         seal 3 as 1 of 4 m-61-1 live:1
-        get a -> 11 Vault(Misplaced { cloud: 3, said_cloud: 1, said_width: 4 })
-        put a < "abc" -> 11 Vault(Misplaced { cloud: 3, said_cloud: 1, said_width: 4 })
+        get a -> 11 cloud 3 holds objects of cloud 1 of 4
+        put a < "abc" -> 11 cloud 3 holds objects of cloud 1 of 4
         unchanged
 
         # metadata of another width alone is told
         clouds 5
         seal 2 as 2 of 4 m-61-1 live:1
-        get a -> 11 Vault(Misplaced { cloud: 2, said_cloud: 2, said_width: 4 })
-        put a < "abc" -> 11 Vault(Misplaced { cloud: 2, said_cloud: 2, said_width: 4 })
+        get a -> 11 cloud 2 holds objects of cloud 2 of 4
+        put a < "abc" -> 11 cloud 2 holds objects of cloud 2 of 4
         unchanged
 
         # clouds in another order are told
         clouds 4
         put a < "abcdefgh" -> 0 Ok = generation:1
         rotate
-        get a -> 11 Vault(Misplaced { cloud: 0, said_cloud: 1, said_width: 4 })
-        put a < "abc" -> 11 Vault(Misplaced { cloud: 0, said_cloud: 1, said_width: 4 })
+        get a -> 11 cloud 0 holds objects of cloud 1 of 4
+        put a < "abc" -> 11 cloud 0 holds objects of cloud 1 of 4
         unchanged
         "#,
     )
@@ -162,7 +162,7 @@ fn a_code_that_stands_no_loss_is_told(rt: HostRuntime) -> Result<(), Fail> {
         seal each c-61-0-0 "ab" "ef" 0404 abae
         seal each c-61-0-1 "cd" "gh" 040c adb4
         seal all m-61-1 unsound:1
-        get a -> 11 Vault(Unsound { a: 0, b: 1 })
+        get a -> 11 rows without clouds 0 and 1 are dependent
         gets of chunks 0 0 0 0
         unchanged
         "#,

@@ -1,6 +1,6 @@
 //! What a scrub tells: of each name by cloud, metadata first, and then the chunks row by row. It changes nothing.
 
-use crate::player::play;
+use nc_stage::play;
 use std::test::Fail;
 
 #[test]
@@ -23,7 +23,7 @@ fn each_state_of_a_chunk_is_told(rt: HostRuntime) -> Result<(), Fail> {
         seal 2 c-61-0-1 8522
         scrub -> 0 Ok = "cloud·0·chunk·1·missing·a¶" "cloud·1·chunk·0·broken·a¶" "cloud·2·chunk·0·changed·a¶" "cloud·2·chunk·1·changed·a¶"
         unchanged
-        restore 0 1 -> 5 Short: 2 row 0 Marked
+        restore 0 1 -> 5 after 0 names: too few clouds: 2 row 0 changed
 
         # a chunk of another cloud, of another length, or with more bytes than asked for is broken
         clouds 4
@@ -148,27 +148,27 @@ fn every_cloud_must_answer_a_scrub(rt: HostRuntime) -> Result<(), Fail> {
         put a < "abcdefgh" -> 0 Ok = generation:1
         put b < "0123456789" -> 0 Ok = generation:1
         lose 2 c-61-0-0
-        failing 4 3: scrub -> 4 Vault(Cloud(2)) leaving 23 23 23 23
-        failing 8 9: scrub -> 4 Vault(Cloud(0)) leaving 23 23 23 23
-        failing 14: scrub -> 4 Vault(Cloud(1)) leaving 23 23 23 23
-        failing 20 19: scrub -> 4 Vault(Cloud(2)) leaving 23 23 23 23
-        failing 16 17: scrub -> 4 Vault(Cloud(3)) leaving 23 23 23 23
+        failing 4 3: scrub -> 4 after 0 names: cloud 2 failed leaving 23 23 23 23
+        failing 8 9: scrub -> 4 after 0 names: cloud 0 failed leaving 23 23 23 23
+        failing 14: scrub -> 4 after 0 names: cloud 1 failed leaving 23 23 23 23
+        failing 20 19: scrub -> 4 after 0 names: cloud 2 failed leaving 23 23 23 23
+        failing 16 17: scrub -> 4 after 0 names: cloud 3 failed leaving 23 23 23 23
 
         # nothing is told of a name before
-        failing 22: scrub -> 4 Vault(Cloud(1)) leaving 23 23 23 23
-        failing 36: scrub -> 4 Vault(Cloud(3)) leaving 23 23 23 23
+        failing 22: scrub -> 4 after 1 names: cloud 1 failed leaving 23 23 23 23
+        failing 36: scrub -> 4 after 1 names: cloud 3 failed leaving 23 23 23 23
         failing 37: scrub -> 0 Ok = "cloud·2·chunk·0·missing·a¶" leaving 23 23 23 23
 
         # metadata of elsewhere is told, and then a conflict
         seal 0 m-62-0 gone:2
         seal 2 m-62-0 live:2
-        scrub -> 11 Vault(Conflict { generation: 2, a: 0, b: 2 })
+        scrub -> 11 after 1 names: clouds 0 and 2 differ at generation 2
         rounds of 4 4 4 4 4 4
         unchanged
         copy 1 m-62-1 to 3
-        scrub -> 11 Vault(Misplaced { cloud: 3, said_cloud: 1, said_width: 4 })
+        scrub -> 11 after 1 names: cloud 3 holds objects of cloud 1 of 4
         unchanged
-        refused: scrub a -> 2 Usage
+        refused: scrub a -> 2 usage
         "#,
     )
 }

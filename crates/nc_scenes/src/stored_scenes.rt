@@ -1,7 +1,7 @@
 //! What a put stores. The payloads and the digests are of the objects that bench/plain.py makes; those of a second and a
 //! third version are made with its functions, by the generation and the slots of docs/FORMATS.md.
 
-use crate::player::play;
+use nc_stage::play;
 use std::test::Fail;
 
 #[test]

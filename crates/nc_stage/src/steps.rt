@@ -15,6 +15,8 @@ impl Stage {
             ["read", nth, "fails"] => self.next.failing_read = nth.parse()?,
             ["writes", "up", "to", most] => self.next.writes_up_to = most.parse()?,
             ["write", nth, "fails"] => self.next.failing_write = nth.parse()?,
+            ["tells", "up", "to", most] => self.next.tells_up_to = most.parse()?,
+            ["tell", nth, "fails"] => self.next.failing_tell = nth.parse()?,
             ["entry", nth, "fails", "leaving", fate] => {
                 self.failing = (nth.parse()?, fate_of(fate)?);
             }

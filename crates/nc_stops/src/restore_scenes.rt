@@ -1,6 +1,6 @@
 //! Restores of one cloud or two: what they read and write, and what they leave as it is.
 
-use crate::player::play;
+use nc_stage::play;
 use std::test::Fail;
 
 #[test]
@@ -14,7 +14,7 @@ fn a_restore_ends_what_a_repair_could_not(rt: HostRuntime) -> Result<(), Fail> {
         lose 1
         cut 2 c-61-0-0
         cut 2 c-61-0-1
-        repair 1 -> 10 Vault(Damaged { cloud: 2, row: 0, how: Broken })
+        repair 1 -> 10 after 0 names: cloud 2 row 0 is broken
         restore 1 2 -> 0 Ok = "restored·4¶"
         rounds of 4 4 2 2 2 2 2 2
         gets of chunks 2 0 2 2
@@ -31,7 +31,7 @@ fn a_restore_ends_what_a_repair_could_not(rt: HostRuntime) -> Result<(), Fail> {
         seal each c-61-0-1 "cd" "gh" 040c adb4
         seal all m-61-1 live:1
         lose 1
-        repair 1 -> 6 Vault(Spent(64))
+        repair 1 -> 6 after 0 names: none of 64 candidates is good
         restore 1 -> 0 Ok = "restored·2¶"
         payloads c-61-0-0 "ab" "ef" 0404 abae
         payloads c-61-0-1 "cd" "gh" 040c adb4
@@ -96,23 +96,23 @@ fn a_third_damaged_cloud_leaves_too_few(rt: HostRuntime) -> Result<(), Fail> {
         cut 2 c-61-0-0
         cut 2 c-61-0-1
         copy 0 c-61-0-0 to 3
-        restore 1 2 -> 5 Short: 3 row 0 Broken
+        restore 1 2 -> 5 after 0 names: too few clouds: 3 row 0 broken
         rounds of 4 4 2 2 2 1
         unchanged
-        restore 3 1 -> 5 Short: 2 row 0 Broken
+        restore 3 1 -> 5 after 0 names: too few clouds: 2 row 0 broken
         unchanged
-        restore 2 3 -> 5 Short: 1 row 0 Missing
+        restore 2 3 -> 5 after 0 names: too few clouds: 1 row 0 missing
         unchanged
-        restore 1 -> 5 Short: 2 row 0 Broken, 3 row 0 Broken
+        restore 1 -> 5 after 0 names: too few clouds: 2 row 0 broken, 3 row 0 broken
         unchanged
         restore 0 -> 0 Ok = "restored·0¶"
         unchanged
         seal 3 c-61-0-0 8f39
         seal 3 c-61-0-1 a7fc
-        restore 1 2 -> 5 Short: 3 row 1 Marked
+        restore 1 2 -> 5 after 0 names: too few clouds: 3 row 1 changed
         unchanged
         lose 3 c-61-0-1
-        restore 1 2 -> 5 Short: 3 row 1 Missing
+        restore 1 2 -> 5 after 0 names: too few clouds: 3 row 1 missing
         unchanged
         seal 3 c-61-0-1 a7fd
         restore 1 2 -> 0 Ok = "restored·4¶"
@@ -133,8 +133,8 @@ fn a_source_that_fails_is_passed_over(rt: HostRuntime) -> Result<(), Fail> {
         lose 1 c-61-0-1
         failing 15: restore 1 -> 0 Ok = "restored·2¶" leaving 12 12 12 12
         failing 18: restore 1 -> 0 Ok = "restored·2¶" leaving 12 12 12 12
-        failing 15 17: restore 1 -> 5 Short: 0 failed, 2 failed leaving 10 10 10 10
-        failing 16 19: restore 1 -> 5 Short: 2 failed, 3 failed leaving 10 10 10 10
+        failing 15 17: restore 1 -> 5 after 0 names: too few clouds: 0 failed, 2 failed leaving 10 10 10 10
+        failing 16 19: restore 1 -> 5 after 0 names: too few clouds: 2 failed, 3 failed leaving 10 10 10 10
         entry 16 fails leaving old
         restore 1 -> 0 Ok = "restored·2¶"
         rounds of 4 4 1 1 2 1 1 1 1 1
@@ -144,9 +144,9 @@ fn a_source_that_fails_is_passed_over(rt: HostRuntime) -> Result<(), Fail> {
         # where two are, it is listed: entries 17 to 20 are the gets of clouds 0 and 3
         cut 1 c-61-0-0
         cut 2 c-61-0-1
-        failing 18: restore 1 2 -> 5 Short: 3 failed leaving 12 12 12 12
-        failing 19: restore 1 2 -> 5 Short: 0 failed leaving 12 12 12 12
-        failing 17 18: restore 1 2 -> 5 Short: 0 failed, 3 failed leaving 12 12 12 12
+        failing 18: restore 1 2 -> 5 after 0 names: too few clouds: 3 failed leaving 12 12 12 12
+        failing 19: restore 1 2 -> 5 after 0 names: too few clouds: 0 failed leaving 12 12 12 12
+        failing 17 18: restore 1 2 -> 5 after 0 names: too few clouds: 0 failed, 3 failed leaving 12 12 12 12
         restore 1 2 -> 0 Ok = "restored·2¶"
         rounds of 4 4 2 2 2 2 1 1
 
@@ -155,7 +155,7 @@ fn a_source_that_fails_is_passed_over(rt: HostRuntime) -> Result<(), Fail> {
         put a < mixed:100 -> 0 Ok = generation:1
         cut 3 c-61-0-0
         failing 24: restore 3 -> 0 Ok = "restored·1¶" leaving 21 21 21 21
-        failing 27 28: restore 3 -> 5 Short: 4 failed, 5 failed leaving 21 21 21 21
+        failing 27 28: restore 3 -> 5 after 0 names: too few clouds: 4 failed, 5 failed leaving 21 21 21 21
         "#,
     )
 }
@@ -235,7 +235,7 @@ fn names_are_restored_in_turn(rt: HostRuntime) -> Result<(), Fail> {
         lose 1
         cut 0 c-62-0-1
         lose 3 c-62-0-0
-        restore 1 -> 5 Short: 0 row 1 Broken, 3 row 0 Missing
+        restore 1 -> 5 after 1 names: too few clouds: 0 row 1 broken, 3 row 0 missing
         gets of chunks 4 0 4 0
         holds 1 m-61-1 c-61-0-0 c-61-0-1 m-62-1
         "#,

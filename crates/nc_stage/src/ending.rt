@@ -7,7 +7,8 @@ use std::alloc::Global;
 use std::test::Fail;
 use std::thread::Threads;
 
-/// How a run must end: the exit code and the status, its output, and how many objects there are then, where that is asked.
+/// How a run must end: the exit code and what its fault's line tells, its output, and how many objects there are then, where
+/// that is asked.
 #[derive(Drop)]
 pub struct End<'a> {
     pub answer: &'a str,
@@ -26,9 +27,19 @@ pub fn end_of(text: &str) -> End<'_> {
         None => (text, ""),
     };
     End {
-        answer,
+        answer: written_out(answer),
         output,
         leaving,
+    }
+}
+
+/// The answer that a scene writes so: words that are no command are told by one line.
+fn written_out(answer: &str) -> &str {
+    match answer {
+        "2 usage" => {
+            "2 usage: nccloud CLOUDS [--seed HEX64] [--budget N] [--workers N] COMMAND [ARGUMENT]..."
+        }
+        other => other,
     }
 }
 

@@ -1,6 +1,6 @@
 //! Repairs of one lost cloud: what they read and write, what any two clouds give afterwards, and what is refused.
 
-use crate::player::play;
+use nc_stage::play;
 use std::test::Fail;
 
 #[test]
@@ -95,7 +95,7 @@ fn a_repair_brings_names_to_rest(rt: HostRuntime) -> Result<(), Fail> {
         repair 0 -> 0 Ok = "repaired·0¶"
         gets of chunks 0 0 0 0
         each holds m-61-0
-        get a -> 3 Vault(NoFile)
+        get a -> 3 no such file
         put a < "abc" -> 0 Ok = generation:3
         "#,
     )
@@ -112,7 +112,7 @@ fn repairs_that_are_refused(rt: HostRuntime) -> Result<(), Fail> {
         seal each c-61-0-1 "cd" "gh" 040c adb4
         seal all m-61-1 live:1
         lose 1
-        repair 1 -> 6 Vault(Spent(64))
+        repair 1 -> 6 after 0 names: none of 64 candidates is good
         gets of chunks 0 0 0 0
         holds 1 m-61-1
         get a -> 0 Ok = "abcdefgh"
@@ -122,26 +122,26 @@ fn repairs_that_are_refused(rt: HostRuntime) -> Result<(), Fail> {
         seal each c-61-0-0 "ab" "ef" 0404 abae
         seal each c-61-0-1 "cd" "gh" 040c adb4
         seal all m-61-0 live:18446744073709551614
-        put a < "abc" -> 12 Vault(Worn)
+        put a < "abc" -> 12 the name's generations are used up
         unchanged
-        rm a -> 12 Vault(Worn)
+        rm a -> 12 the name's generations are used up
         unchanged
-        repair 0 -> 12 Vault(Worn)
+        repair 0 -> 12 after 0 names: the name's generations are used up
         unchanged
         get a -> 0 Ok = "abcdefgh"
 
         # the cloud must be one of them
-        refused: repair 4 -> 2 Usage
-        refused: repair -> 2 Usage
-        refused: repair 1 2 -> 2 Usage
-        refused: repair +1 -> 2 Usage
-        refused: repair one -> 2 Usage
+        refused: repair 4 -> 2 usage
+        refused: repair -> 2 usage
+        refused: repair 1 2 -> 2 usage
+        refused: repair +1 -> 2 usage
+        refused: repair one -> 2 usage
         "#,
     )
 }
 
 #[test]
-fn ten_repairs_of_4_clouds(rt: HostRuntime) -> Result<(), Fail> {
+fn each_cloud_is_repaired_in_turn(rt: HostRuntime) -> Result<(), Fail> {
     play(
         &rt,
         r#"
@@ -181,15 +181,7 @@ fn ten_repairs_of_4_clouds(rt: HostRuntime) -> Result<(), Fail> {
         objects 12
         stat a -> 0 Ok = "generation·11·length·103·witnesses·yes¶"
         without two: get a -> 0 Ok = mixed:103
-        "#,
-    )
-}
 
-#[test]
-fn ten_repairs_of_7_clouds(rt: HostRuntime) -> Result<(), Fail> {
-    play(
-        &rt,
-        r#"
         # ten repairs of 7 clouds
         clouds 7
         put a < mixed:100 -> 0 Ok = generation:1
@@ -225,15 +217,7 @@ fn ten_repairs_of_7_clouds(rt: HostRuntime) -> Result<(), Fail> {
         get a -> 0 Ok = mixed:100
         objects 21
         without two: get a -> 0 Ok = mixed:100
-        "#,
-    )
-}
 
-#[test]
-fn ten_repairs_of_10_clouds(rt: HostRuntime) -> Result<(), Fail> {
-    play(
-        &rt,
-        r#"
         # ten repairs of 10 clouds, each once
         clouds 10
         put a < mixed:1000 -> 0 Ok = generation:1

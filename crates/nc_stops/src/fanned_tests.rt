@@ -5,14 +5,11 @@
 //! and beside it this call of cloud 1, which is the same.
 ghost use Rattle.nc_frame.specs.Frames.{Whole};
 
-use crate::clouds::{keys, place_frame};
-use crate::ending::check_run;
-use crate::player::fate_of;
-use crate::value::piece_bytes;
 use nc_cloud::{Cloud, Fanned, Fleet, Got};
 use nc_frame::seal;
 use nc_memory::{Damage, KeyFates, MemCloud, MemFleet, Torn};
 use nc_name::{Blob, Key, read_key};
+use nc_stage::{check_run, fate_of, keys, piece_bytes, place_frame};
 use std::alloc::Global;
 use std::mem;
 use std::test::Fail;
@@ -33,7 +30,13 @@ static SCENES: &str = r#"
     get a -> 0 Ok
     ls -> 0 Ok = "0·a¶"
     rm a -> 0 Ok = generation:2
-    get a -> 3 Vault(NoFile)
+    get a -> 3 no such file
+
+    clouds 4
+    batch < "put·a·6162¶put·a·63¶get·a¶rm·a¶get·a¶" -> 3 line 5: no such file = generation:1 generation:2 "63¶" generation:3
+    clouds 4
+    entry 50 call 13 of 1 leaving broken
+    --workers 2 batch < "put·a·6162¶put·a·63" -> 4 line 2: cloud 1 failed = generation:1
 
     # cloud 2 fails once as it is asked for its chunk
     clouds 4
@@ -41,7 +44,7 @@ static SCENES: &str = r#"
     put a < "abcdefgh" -> 0 Ok = generation:1
     put b < "0123456789" -> 0 Ok = generation:1
     lose 1
-    repair 1 -> 4 Vault(Cloud(2))
+    repair 1 -> 4 after 0 names: cloud 2 failed
     repair 1 -> 0 Ok = "repaired·2¶"
     scrub -> 0 Ok
     lose 0
@@ -56,7 +59,7 @@ static SCENES: &str = r#"
     seal 2 as 0 of 4 c-61-0-0 442a
     seal 2 as 0 of 4 c-61-0-1 c758
     scrub -> 0 Ok = "cloud·1·meta·missing·a¶" "cloud·1·chunk·0·missing·a¶" "cloud·1·chunk·1·missing·a¶" "cloud·2·chunk·0·broken·a¶" "cloud·2·chunk·1·broken·a¶"
-    repair 1 -> 10 Vault(Damaged { cloud: 2, row: 0, how: Broken })
+    repair 1 -> 10 after 0 names: cloud 2 row 0 is broken
     restore 1 2 -> 0 Ok = "restored·4¶"
     scrub -> 0 Ok
     get a -> 0 Ok = "abcdefgh"
@@ -64,16 +67,16 @@ static SCENES: &str = r#"
     # cloud 1 fails in the round of the metadata, after two looks and two chunks
     clouds 4
     entry 18 call 5 of 1 leaving old
-    put a < "abcdefgh" -> 4 Vault(Cloud(1))
+    put a < "abcdefgh" -> 4 cloud 1 failed
     clouds 4
     entry 18 call 5 of 1 leaving new
-    put a < "abcdefgh" -> 4 Vault(Cloud(1))
+    put a < "abcdefgh" -> 4 cloud 1 failed
     clouds 4
     entry 18 call 5 of 1 leaving gone
-    put a < "abcdefgh" -> 4 Vault(Cloud(1))
+    put a < "abcdefgh" -> 4 cloud 1 failed
     clouds 4
     entry 18 call 5 of 1 leaving broken
-    put a < "abcdefgh" -> 4 Vault(Cloud(1))
+    put a < "abcdefgh" -> 4 cloud 1 failed
     get a -> 0 Ok = "abcdefgh"
     put a < "abc" -> 0 Ok = generation:2
     get a -> 0 Ok = "abc"
@@ -83,7 +86,7 @@ static SCENES: &str = r#"
     entry 20 call 5 of 3 leaving gone
     entry 18 call 5 of 1 leaving broken
     entry 19 call 5 of 2 leaving old
-    put a < "abcdefgh" -> 4 Vault(Cloud(1))
+    put a < "abcdefgh" -> 4 cloud 1 failed
     "#;
 
 /// The same clouds twice: as one fleet, and each by itself.

@@ -1,9 +1,9 @@
 //! Plays scenes over clouds in memory, and tells the first line that ends otherwise than it must.
 
 use crate::checks::{check_number, check_same, check_unread};
-use crate::clouds::{NONE, all_clouds, arranged, count, keys};
-use crate::ending::{End, check_answer, check_end, end_of};
-use crate::running::Setup;
+use crate::clouds::{NONE, all_clouds, arranged, count, image_of, keys};
+use crate::ending::{End, check_end, end_of};
+use crate::running::{Setup, spelled};
 use crate::value::bytes_of;
 use nc_memory::{MemFleet, Torn};
 use nc_name::Key;
@@ -26,6 +26,10 @@ pub struct Stage {
     pub next: Setup,
     /// An entry of the next run that fails, and what it leaves.
     pub failing: (u64, Torn),
+    /// The lines of a batch that has no other input.
+    lines: Vec<u8>,
+    /// Whether more lines are added to these. Else the next one is the first.
+    adding: bool,
 }
 
 /// Plays these scenes.
@@ -51,6 +55,8 @@ impl Stage {
             before: MemFleet::new(alloc, width)?,
             next: Setup::new(Vec::new(alloc)),
             failing: (0, Torn::Old),
+            lines: Vec::new(alloc),
+            adding: false,
         })
     }
 
@@ -58,6 +64,10 @@ impl Stage {
         if line.starts_with('#') {
             return Ok(());
         }
+        if let Some(text) = line.strip_prefix('|') {
+            return self.add_line(text.trim_start());
+        }
+        self.adding = false;
         match line.split_once(" -> ") {
             Some((run, end)) => self.perform_run(rt, run, &end_of(end)),
             None => match line.split_once(": ") {
@@ -80,6 +90,18 @@ impl Stage {
         Err(Fail::new("no such line"))
     }
 
+    /// Adds a line to the batches that follow.
+    fn add_line(&mut self, text: &str) -> Result<(), Fail> {
+        if !self.adding {
+            self.lines = Vec::new(self.alloc);
+            self.adding = true;
+        }
+        let text = spelled(self.alloc, text)?;
+        self.lines.extend_from_slice(text.as_bytes())?;
+        self.lines.push(b'\n')?;
+        Ok(())
+    }
+
     fn perform_run<R: Threads + Sync + AllocGlobal>(
         &mut self,
         rt: &R,
@@ -90,25 +112,21 @@ impl Stage {
             Some(parts) => parts,
             None => ("", run),
         };
+        if how.contains(" stops ") || how.contains(" bears ") {
+            return self.perform_interrupted(rt, how, words, end);
+        }
         let words = self.take_input(words)?;
-        if let Some((command, range)) = how.split_once(" stops at ") {
-            return self.run_interrupted(rt, command, "4 Vault(Cloud(", range, words, end);
-        }
-        if let Some((command, range)) = how.split_once(" bears ") {
-            return self.run_interrupted(rt, command, "0 Ok", range, words, end);
-        }
         let how: Vec<&str> = how.split_whitespace().collect(self.alloc)?;
         match *how {
             [] => self.run(rt, words, end),
             ["without", "two"] => self.run_without_two(rt, words, end),
             ["refused"] => self.run_refused(rt, words, end),
-            ["within", budget] => self.put_within(rt, budget.parse()?, words, end),
             ["failing", ..] => self.run_failing(rt, &how, words, end),
             _ => Err(Fail::new("no such run")),
         }
     }
 
-    /// Sets the input that stands after the words, and answers the words.
+    /// Sets the input that stands after the words, or the lines of a batch, and answers the words.
     fn take_input<'a>(&mut self, words: &'a str) -> Result<&'a str, Fail> {
         match words.split_once(" < ") {
             Some((words, input)) => {
@@ -116,8 +134,25 @@ impl Stage {
                 self.next.input = bytes_of(self.alloc, &pieces)?;
                 Ok(words)
             }
-            None => Ok(words),
+            None => {
+                self.next.input = self.lines_for(words)?;
+                Ok(words)
+            }
         }
+    }
+
+    /// The input of these words, where none stands after them: of a batch the lines before it.
+    fn lines_for(&self, words: &str) -> Result<Vec<u8>, Fail> {
+        if words.ends_with("batch") {
+            Ok(self.lines.clone()?)
+        } else {
+            Ok(Vec::new(self.alloc))
+        }
+    }
+
+    /// How words are run that come with no more.
+    pub fn setup_of(&self, words: &str) -> Result<Setup, Fail> {
+        Ok(Setup::new(self.lines_for(words)?))
     }
 
     /// The same clouds, of which none has been asked yet.
@@ -215,21 +250,6 @@ impl Stage {
         check_same(&self.clouds, &clouds, &self.keys)
     }
 
-    fn put_within<R: Threads + Sync + AllocGlobal>(
-        &mut self,
-        rt: &R,
-        budget: u16,
-        words: &str,
-        end: &End<'_>,
-    ) -> Result<(), Fail> {
-        let setup = self.take_next();
-        let mut clouds = self.copy()?;
-        let name = words.strip_prefix("put ").ok_or("no put")?;
-        let found = setup.put_within(rt, &mut clouds, budget, name)?;
-        self.before = mem::replace(&mut self.clouds, clouds);
-        check_answer(found.as_str(), end.answer)
-    }
-
     /// Runs words that stop in a round.
     fn stop<R: Threads + Sync + AllocGlobal>(
         &mut self,
@@ -246,19 +266,23 @@ impl Stage {
         let setup = self.take_next();
         let mut clouds = self.copy()?;
         setup.run(rt, &mut clouds, words)?;
-        if clouds.rounds() <= round {
-            return Err(Fail::new("no such round"));
-        }
-        let mut all = Vec::new(self.alloc);
-        for fate in fates.split(' ') {
-            all.push(fate_of(fate)?)?;
-        }
-        let image = clouds.stopped(round, all.as_slice())?;
+        let fates = fates_of(self.alloc, fates)?;
+        let image = image_of(&clouds, round, fates.as_slice())?;
         self.before = mem::replace(&mut self.clouds, image);
         Ok(())
     }
 }
 
+/// The fates of a round's entries.
+pub fn fates_of(alloc: Global, texts: &str) -> Result<Vec<Torn>, Fail> {
+    let mut fates = Vec::new(alloc);
+    for text in texts.split(' ') {
+        fates.push(fate_of(text)?)?;
+    }
+    Ok(fates)
+}
+
+/// What becomes of an object.
 pub fn fate_of(text: &str) -> Result<Torn, Fail> {
     match text {
         "old" => Ok(Torn::Old),

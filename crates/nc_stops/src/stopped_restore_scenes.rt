@@ -1,6 +1,6 @@
 //! Restores that an entry stops, in each of their rounds: the file comes back, and the next restore ends it.
 
-use crate::player::play;
+use nc_stage::play;
 use std::test::Fail;
 
 #[test]
@@ -15,23 +15,23 @@ fn a_failing_cloud_stops_a_restore(rt: HostRuntime) -> Result<(), Fail> {
         lose 1 c-61-0-1
         cut 2 c-61-0-1
         # the lists, the look, and the named clouds
-        failing 4 2: restore 1 2 -> 4 Vault(Cloud(1)) leaving 10 10 10 10
-        failing 7: restore 1 2 -> 4 Vault(Cloud(2)) leaving 10 10 10 10
-        failing 8 9: restore 1 2 -> 4 Vault(Cloud(0)) leaving 10 10 10 10
-        failing 13: restore 1 2 -> 4 Vault(Cloud(1)) leaving 10 10 10 10
-        failing 14 15: restore 1 2 -> 4 Vault(Cloud(2)) leaving 10 10 10 10
-        failing 16: restore 1 2 -> 4 Vault(Cloud(2)) leaving 10 10 10 10
+        failing 4 2: restore 1 2 -> 4 after 0 names: cloud 1 failed leaving 10 10 10 10
+        failing 7: restore 1 2 -> 4 after 0 names: cloud 2 failed leaving 10 10 10 10
+        failing 8 9: restore 1 2 -> 4 after 0 names: cloud 0 failed leaving 10 10 10 10
+        failing 13: restore 1 2 -> 4 after 0 names: cloud 1 failed leaving 10 10 10 10
+        failing 14 15: restore 1 2 -> 4 after 0 names: cloud 2 failed leaving 10 10 10 10
+        failing 16: restore 1 2 -> 4 after 0 names: cloud 2 failed leaving 10 10 10 10
         # the writes of row 0 and of row 1
-        failing 21: restore 1 2 -> 4 Vault(Cloud(1)) leaving 10 11 10 11
-        failing 22: restore 1 2 -> 4 Vault(Cloud(1)) leaving 11 12 11 12
-        failing 23: restore 1 2 -> 4 Vault(Cloud(2)) leaving 12 12 11 12
-        failing 23 21: restore 1 2 -> 4 Vault(Cloud(1)) leaving 10 11 10 11
+        failing 21: restore 1 2 -> 4 after 0 names: cloud 1 failed leaving 10 11 10 11
+        failing 22: restore 1 2 -> 4 after 0 names: cloud 1 failed leaving 11 12 11 12
+        failing 23: restore 1 2 -> 4 after 0 names: cloud 2 failed leaving 12 12 11 12
+        failing 23 21: restore 1 2 -> 4 after 0 names: cloud 1 failed leaving 10 11 10 11
 
         # the metadata before, on a cloud that was emptied
         lose 1
-        failing 13: restore 1 2 -> 4 Vault(Cloud(1)) leaving 9 10 9 10
+        failing 13: restore 1 2 -> 4 after 0 names: cloud 1 failed leaving 9 10 9 10
         entry 13 fails leaving broken
-        restore 1 2 -> 4 Vault(Cloud(1))
+        restore 1 2 -> 4 after 0 names: cloud 1 failed
         get a -> 0 Ok = "abcdefgh"
         restore 1 2 -> 0 Ok = "restored·3¶"
         scrub -> 0 Ok
@@ -81,7 +81,7 @@ fn a_restore_that_stopped_in_its_writes_is_ended(rt: HostRuntime) -> Result<(), 
 }
 
 #[test]
-fn any_entry_may_stop_a_restore_over_4_clouds(rt: HostRuntime) -> Result<(), Fail> {
+fn any_entry_may_stop_a_restore(rt: HostRuntime) -> Result<(), Fail> {
     play(
         &rt,
         r#"
@@ -99,20 +99,12 @@ fn any_entry_may_stop_a_restore_over_4_clouds(rt: HostRuntime) -> Result<(), Fai
         cut 2 c-61-0-0
         lose 2 c-61-0-1
         restore 1 2 stops at 1 to 17: get a -> 0 Ok = "abcdefgh"
-        failing 18: restore 1 2 -> 5 Short: 0 failed leaving 9 9 9 9
-        failing 21: restore 1 2 -> 5 Short: 3 failed leaving 9 9 9 9
+        failing 18: restore 1 2 -> 5 after 0 names: too few clouds: 0 failed leaving 9 9 9 9
+        failing 21: restore 1 2 -> 5 after 0 names: too few clouds: 3 failed leaving 9 9 9 9
         restore 1 2 stops at 22 to 25: get a -> 0 Ok = "abcdefgh"
         restore 1 2 -> 0 Ok = "restored·4¶"
         rounds of 4 4 1 2 2 2 2 2 2
-        "#,
-    )
-}
 
-#[test]
-fn entries_of_each_round_may_stop_a_restore_over_7_clouds(rt: HostRuntime) -> Result<(), Fail> {
-    play(
-        &rt,
-        r#"
         # one cloud: 7 lists, 14 looks, metadata, 2 gets of it, 10 of the sources, and 2 writes; the first or last of them
         clouds 7
         put a < mixed:100 -> 0 Ok = generation:1
@@ -127,20 +119,12 @@ fn entries_of_each_round_may_stop_a_restore_over_7_clouds(rt: HostRuntime) -> Re
         cut 0 c-61-0-0
         lose 0 c-61-0-1
         restore 6 0 stops at 21 to 26: get a -> 0 Ok = mixed:100
-        failing 27: restore 6 0 -> 5 Short: 1 failed leaving 18 18 18 18
-        failing 36: restore 6 0 -> 5 Short: 5 failed leaving 18 18 18 18
+        failing 27: restore 6 0 -> 5 after 0 names: too few clouds: 1 failed leaving 18 18 18 18
+        failing 36: restore 6 0 -> 5 after 0 names: too few clouds: 5 failed leaving 18 18 18 18
         restore 6 0 stops at 37 to 40: get a -> 0 Ok = mixed:100
         restore 6 0 -> 0 Ok = "restored·4¶"
         rounds of 7 7 1 2 2 5 5 2 2
-        "#,
-    )
-}
 
-#[test]
-fn entries_of_each_round_may_stop_a_restore_over_10_clouds(rt: HostRuntime) -> Result<(), Fail> {
-    play(
-        &rt,
-        r#"
         # one cloud: 10 lists, 20 looks, metadata, 2 gets of it, 16 of the sources, and 2 writes; the first or last of them
         clouds 10
         put a < mixed:100 -> 0 Ok = generation:1
@@ -155,8 +139,8 @@ fn entries_of_each_round_may_stop_a_restore_over_10_clouds(rt: HostRuntime) -> R
         cut 9 c-61-0-0
         lose 9 c-61-0-1
         restore 4 9 stops at 30 to 35: get a -> 0 Ok = mixed:100
-        failing 36: restore 4 9 -> 5 Short: 0 failed leaving 27 27 27 27
-        failing 51: restore 4 9 -> 5 Short: 8 failed leaving 27 27 27 27
+        failing 36: restore 4 9 -> 5 after 0 names: too few clouds: 0 failed leaving 27 27 27 27
+        failing 51: restore 4 9 -> 5 after 0 names: too few clouds: 8 failed leaving 27 27 27 27
         restore 4 9 stops at 52 to 55: get a -> 0 Ok = mixed:100
         restore 4 9 -> 0 Ok = "restored·4¶"
         rounds of 10 10 1 2 2 8 8 2 2
@@ -171,16 +155,16 @@ fn restores_that_are_refused(rt: HostRuntime) -> Result<(), Fail> {
         r#"
         # the clouds must be one or two of them
         clouds 4
-        refused: restore -> 2 Usage
-        refused: restore 4 -> 2 Usage
-        refused: restore 0 4 -> 2 Usage
-        refused: restore 1 01 -> 2 Usage
-        refused: restore 0 1 2 -> 2 Usage
-        refused: restore +1 -> 2 Usage
+        refused: restore -> 2 usage
+        refused: restore 4 -> 2 usage
+        refused: restore 0 4 -> 2 usage
+        refused: restore 1 01 -> 2 usage
+        refused: restore 0 1 2 -> 2 usage
+        refused: restore +1 -> 2 usage
 
         # a code that stands no loss is told before chunks are read
         seal all m-61-1 unsound:1
-        restore 1 -> 11 Vault(Unsound { a: 0, b: 1 })
+        restore 1 -> 11 after 0 names: rows without clouds 0 and 1 are dependent
         rounds of 4 4
         unchanged
 
@@ -190,10 +174,10 @@ fn restores_that_are_refused(rt: HostRuntime) -> Result<(), Fail> {
         lose 1 c-61-0-0
         seal 0 m-61-0 gone:2
         seal 2 m-61-0 live:2
-        restore 1 -> 11 Vault(Conflict { generation: 2, a: 0, b: 2 })
+        restore 1 -> 11 after 0 names: clouds 0 and 2 differ at generation 2
         unchanged
         copy 1 m-61-1 to 3
-        restore 1 -> 11 Vault(Misplaced { cloud: 3, said_cloud: 1, said_width: 4 })
+        restore 1 -> 11 after 0 names: cloud 3 holds objects of cloud 1 of 4
         rounds of 4 4
         unchanged
         "#,

@@ -1,8 +1,8 @@
 //! Runs over folders. What stands in them is the system's word, so tests alone look at it.
 
-use crate::ending::check_run;
 use nc_cloud::Fanned;
 use nc_folder::FolderCloud;
+use nc_stage::check_run;
 use std::fs;
 use std::test::Fail;
 
@@ -27,7 +27,7 @@ static REPAIRED: &str = r#"
     has scratch_file/0/c-70686f746f732e6462-0-0
     has scratch_file/3/c-70686f746f732e6462-0-1
     scrub -> 0 Ok
-    rm photos.db -> 0 Ok = generation:3"#;
+    batch < "rm·photos.db¶get·photos.db¶" -> 3 line 2: no such file = generation:3"#;
 
 /// A file is written over, and what is no chunk, or a folder in a chunk's place, stands in one of the folders.
 static CHANGED: &str = r#"
@@ -48,7 +48,7 @@ static CHANGED: &str = r#"
     lacks scratch_file/2/m-61-1
     make scratch_file/2/c-61-0-1
     get a -> 0 Ok = mixed:5
-    put a < mixed:4 -> 4 Vault(Cloud(2))
+    put a < mixed:4 -> 4 cloud 2 failed
     get a -> 0 Ok = mixed:5
     raze scratch_file/2/c-61-0-1
     put a < mixed:4 -> 0 Ok = generation:3
@@ -71,19 +71,19 @@ static CHANGED: &str = r#"
 static RAZED: &str = r#"
     raze scratch_file/3
     get a -> 0 Ok = mixed:4
-    get b -> 3 Vault(NoFile)
-    put b -> 4 Vault(Cloud(3))
-    scrub -> 4 Vault(Cloud(3))
-    restore 0 -> 4 Vault(Cloud(3))
+    get b -> 3 no such file
+    put b -> 4 cloud 3 failed
+    scrub -> 4 after 0 names: cloud 3 failed
+    restore 0 -> 4 after 0 names: cloud 3 failed
     raze scratch_file/1
-    get a -> 5 Short: 1 failed, 2 failed, 3 failed
-    get b -> 3 Vault(NoFile)
-    put b -> 4 Vault(Cloud(1))
+    get a -> 5 too few clouds: 1 failed, 2 failed, 3 failed
+    get b -> 3 no such file
+    put b -> 4 cloud 1 failed
     write scratch_file/1
-    get b -> 3 Vault(NoFile)
-    put b -> 4 Vault(Cloud(1))
+    get b -> 3 no such file
+    put b -> 4 cloud 1 failed
     raze scratch_file/0
-    get b -> 4 Vault(Cloud(0))"#;
+    get b -> 4 cloud 0 failed"#;
 
 /// The clouds of this list of folders, or none where there is no list.
 fn clouds_of(rt: HostRuntime, list: Option<&str>) -> Result<Vec<FolderCloud>, Fail> {
@@ -152,13 +152,13 @@ fn a_file_stands_in_folders(rt: HostRuntime) -> Result<(), Fail> {
 #[test]
 fn lists_that_are_refused_make_no_folder(rt: HostRuntime) -> Result<(), Fail> {
     let scene = "
-        put a -> 2 Width(0)
-        []: put a -> 2 Width(1)
-        [scratch_none/0,scratch_none/1,scratch_none/2]: put a -> 2 Width(3)
-        [scratch_none/0,scratch_none/1,scratch_none/2,scratch_none/3,scratch_none/4,scratch_none/5,scratch_none/6,scratch_none/7,scratch_none/8,scratch_none/9,scratch_none/10]: put a -> 2 Width(11)
-        [,,,]: put a -> 4 Vault(Cloud(0))
-        [,,,]: get a -> 4 Vault(Cloud(0))
-        [scratch_none/0,,,]: get a -> 4 Vault(Cloud(0))";
+        put a -> 2 width 0 is not 4 to 10
+        []: put a -> 2 width 1 is not 4 to 10
+        [scratch_none/0,scratch_none/1,scratch_none/2]: put a -> 2 width 3 is not 4 to 10
+        [scratch_none/0,scratch_none/1,scratch_none/2,scratch_none/3,scratch_none/4,scratch_none/5,scratch_none/6,scratch_none/7,scratch_none/8,scratch_none/9,scratch_none/10]: put a -> 2 width 11 is not 4 to 10
+        [,,,]: put a -> 4 cloud 0 failed
+        [,,,]: get a -> 4 cloud 0 failed
+        [scratch_none/0,,,]: get a -> 4 cloud 0 failed";
     for line in scene.lines() {
         if let Some((run, end)) = line.trim().split_once(" -> ") {
             let (list, words) = match run.split_once(": ") {

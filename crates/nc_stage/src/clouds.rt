@@ -2,7 +2,7 @@
 
 use nc_cloud::Fleet;
 use nc_frame::seal;
-use nc_memory::MemFleet;
+use nc_memory::{MemFleet, Torn};
 use nc_name::{Key, Name, read_key};
 use std::alloc::Global;
 use std::test::Fail;
@@ -20,7 +20,7 @@ const LONG: &str =
 /// Each key of the names of all files in scenes.
 pub fn keys(alloc: Global) -> Result<Vec<Key>, Fail> {
     let mut keys = Vec::new(alloc);
-    for text in ["a", "b", "p", "Z", SPACED, LONG] {
+    for text in ["a", "b", "p", "Z", "-x", SPACED, LONG] {
         let name = Name::read(text)?;
         for slot in 0..2u8 {
             keys.push(Key::Meta { name, slot })?;
@@ -66,6 +66,14 @@ pub fn are_same(a: &MemFleet, b: &MemFleet, keys: &[Key]) -> bool {
         }
     }
     true
+}
+
+/// What a stop in this round of their last run leaves, each entry in its fate.
+pub fn image_of(fleet: &MemFleet, round: u64, fates: &[Torn]) -> Result<MemFleet, Fail> {
+    if fleet.rounds() <= round {
+        return Err(Fail::new("no such round"));
+    }
+    Ok(fleet.stopped(round, fates)?)
 }
 
 /// Places an object.

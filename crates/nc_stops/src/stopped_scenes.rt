@@ -1,6 +1,6 @@
 //! Puts that stop between their rounds or within one, or of which an entry fails: what a later run finds.
 
-use crate::player::play;
+use nc_stage::play;
 use std::test::Fail;
 
 #[test]
@@ -12,10 +12,10 @@ fn a_first_put_that_stopped_left_a_file_or_none(rt: HostRuntime) -> Result<(), F
         clouds 4
         stopped in round 2 leaving new old gone broken: put a < "abcdefgh"
         objects 2
-        get a -> 3 Vault(NoFile)
+        get a -> 3 no such file
         stopped in round 3 leaving new new old broken: put a < "abcdefgh"
         objects 7
-        get a -> 3 Vault(NoFile)
+        get a -> 3 no such file
         put a < "abc" -> 0 Ok = generation:1
         objects 12
         get a -> 0 Ok = "abc"
@@ -33,7 +33,7 @@ fn a_first_put_that_stopped_left_a_file_or_none(rt: HostRuntime) -> Result<(), F
         clouds 4
         stopped in round 4 leaving old broken gone broken: put a < "abcdefgh"
         objects 10
-        get a -> 3 Vault(NoFile)
+        get a -> 3 no such file
         put a < "abc" -> 0 Ok = generation:1
         get a -> 0 Ok = "abc"
         "#,
@@ -48,7 +48,7 @@ fn a_put_that_failed_in_its_metadata_left_a_file(rt: HostRuntime) -> Result<(), 
         # a put of which a cloud fails for its metadata left a file
         clouds 4
         entry 19 fails leaving broken
-        put a < "abcdefgh" -> 4 Vault(Cloud(2))
+        put a < "abcdefgh" -> 4 cloud 2 failed
         objects 12
         get a -> 0 Ok = "abcdefgh"
         put a < "abc" -> 0 Ok = generation:2
@@ -59,7 +59,7 @@ fn a_put_that_failed_in_its_metadata_left_a_file(rt: HostRuntime) -> Result<(), 
         clouds 4
         put a < "old" -> 0 Ok = generation:1
         entry 19 fails leaving old
-        put a < "new!" -> 4 Vault(Cloud(2))
+        put a < "new!" -> 4 cloud 2 failed
         objects 23
         get a -> 0 Ok = "new!"
         put a < "x" -> 0 Ok = generation:3

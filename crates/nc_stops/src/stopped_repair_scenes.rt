@@ -1,6 +1,6 @@
 //! Repairs that stop, or that a damaged chunk or a failing cloud stops: the file stays, and the next repair ends it.
 
-use crate::player::play;
+use nc_stage::play;
 use std::test::Fail;
 
 #[test]
@@ -14,11 +14,11 @@ fn a_damaged_chunk_stops_a_repair(rt: HostRuntime) -> Result<(), Fail> {
         lose 1
         cut 2 c-61-0-0
         cut 2 c-61-0-1
-        repair 1 -> 10 Vault(Damaged { cloud: 2, row: 0, how: Broken })
+        repair 1 -> 10 after 0 names: cloud 2 row 0 is broken
         holds 1 m-61-1
         get a -> 0 Ok = "abcdefgh"
         lose 2
-        repair 1 -> 10 Vault(Damaged { cloud: 2, row: 0, how: Missing })
+        repair 1 -> 10 after 0 names: cloud 2 row 0 is missing
         get a -> 0 Ok = "abcdefgh"
 
         # names that were done stay so: b stops it
@@ -28,7 +28,7 @@ fn a_damaged_chunk_stops_a_repair(rt: HostRuntime) -> Result<(), Fail> {
         lose 1
         lose 2 c-62-0-0
         lose 2 c-62-0-1
-        repair 1 -> 10 Vault(Damaged { cloud: 2, row: 0, how: Missing })
+        repair 1 -> 10 after 1 names: cloud 2 row 0 is missing
         gets of chunks 2 0 1 2
         stat a -> 0 Ok = "generation·2·length·8·witnesses·yes¶"
         stat b -> 0 Ok = "generation·1·length·10·witnesses·yes¶"
@@ -75,14 +75,14 @@ fn a_failing_cloud_stops_a_repair(rt: HostRuntime) -> Result<(), Fail> {
         clouds 4
         put a < "abcdefgh" -> 0 Ok = generation:1
         lose 1
-        failing 1: repair 1 -> 4 Vault(Cloud(0)) leaving 9 9 9 9
-        failing 6: repair 1 -> 4 Vault(Cloud(1)) leaving 9 9 9 9
-        failing 15: repair 1 -> 4 Vault(Cloud(2)) leaving 10 10 10 10
-        failing 17: repair 1 -> 4 Vault(Cloud(1)) leaving 10 11 10 11
-        failing 18: repair 1 -> 4 Vault(Cloud(1)) leaving 11 12 11 12
-        failing 22: repair 1 -> 4 Vault(Cloud(3)) leaving 15 16 15 16
+        failing 1: repair 1 -> 4 after 0 names: cloud 0 failed leaving 9 9 9 9
+        failing 6: repair 1 -> 4 after 0 names: cloud 1 failed leaving 9 9 9 9
+        failing 15: repair 1 -> 4 after 0 names: cloud 2 failed leaving 10 10 10 10
+        failing 17: repair 1 -> 4 after 0 names: cloud 1 failed leaving 10 11 10 11
+        failing 18: repair 1 -> 4 after 0 names: cloud 1 failed leaving 11 12 11 12
+        failing 22: repair 1 -> 4 after 0 names: cloud 3 failed leaving 15 16 15 16
         entry 22 fails leaving old
-        repair 1 -> 4 Vault(Cloud(3))
+        repair 1 -> 4 after 0 names: cloud 3 failed
         get a -> 0 Ok = "abcdefgh"
         repair 1 -> 0 Ok = "repaired·1¶"
         stat a -> 0 Ok = "generation·3·length·8·witnesses·yes¶"
@@ -92,7 +92,7 @@ fn a_failing_cloud_stops_a_repair(rt: HostRuntime) -> Result<(), Fail> {
 }
 
 #[test]
-fn repairs_stopped_before_their_chunks(rt: HostRuntime) -> Result<(), Fail> {
+fn a_repair_may_stop_in_any_round(rt: HostRuntime) -> Result<(), Fail> {
     play(
         &rt,
         r#"
@@ -125,18 +125,6 @@ fn repairs_stopped_before_their_chunks(rt: HostRuntime) -> Result<(), Fail> {
         get a -> 0 Ok = "abcdefgh"
         repair 1 -> 0 Ok = "repaired·1¶"
         without two: get a -> 0 Ok = "abcdefgh"
-        "#,
-    )
-}
-
-#[test]
-fn repairs_stopped_in_their_writes(rt: HostRuntime) -> Result<(), Fail> {
-    play(
-        &rt,
-        r#"
-        # the file is whole after each stop, and the next repair succeeds, after which any two clouds may be lost
-        clouds 4
-        put a < "abcdefgh" -> 0 Ok = generation:1
 
         # in the new chunks
         lose 1
@@ -161,18 +149,6 @@ fn repairs_stopped_in_their_writes(rt: HostRuntime) -> Result<(), Fail> {
         get a -> 0 Ok = "abcdefgh"
         repair 1 -> 0 Ok = "repaired·1¶"
         without two: get a -> 0 Ok = "abcdefgh"
-        "#,
-    )
-}
-
-#[test]
-fn repairs_stopped_in_their_deletes(rt: HostRuntime) -> Result<(), Fail> {
-    play(
-        &rt,
-        r#"
-        # the file is whole after each stop, and the next repair succeeds, after which any two clouds may be lost
-        clouds 4
-        put a < "abcdefgh" -> 0 Ok = generation:1
 
         # in the deletes of the metadata before, and of the chunks that the lost cloud had
         lose 1
