@@ -82,6 +82,7 @@ show 0 "get of it after two other clouds lost theirs: the one that was lost befo
 same bench/demo.sh
 show 0 "put of a byte" "$scratch/byte" put byte
 output=/dev/full show 9 "get of it to a full device: the output failed" "$scratch/empty" get byte
+tells "the output failed"
 output=/dev/full show 9 "put of a byte whose answer goes to a full device: the output failed" "$scratch/byte" put told
 show 0 "get of it: the file was stored" "$scratch/empty" get told
 same "$scratch/byte"
@@ -89,8 +90,11 @@ show 0 "put of 64 MiB, the longest file" "$scratch/longest" put longest
 show 0 "get of it" "$scratch/empty" get longest
 same "$scratch/longest"
 show 7 "put of 64 MiB and one byte: too long, nothing written" "$scratch/too_long" put longer
+tells "the input is longer than 67108864 bytes"
 show 3 "get of it: there is no such file" "$scratch/empty" get longer
+tells "no such file"
 show 8 "put of a folder as input: the read failed" / put folder
+tells "the input failed"
 show 0 "rm of it" "$scratch/empty" rm told
 show 3 "rm of it again: there is no such file" "$scratch/empty" rm told
 show 3 "stat of it" "$scratch/empty" stat told
@@ -101,14 +105,19 @@ says "settled 4"
 show 2 "no words but the clouds: no command" "$scratch/empty"
 show 2 "put without a name: no command" "$scratch/empty" put
 show 2 "repair of a cloud that isn't there: no command" "$scratch/empty" repair 4
+tells "usage: nccloud CLOUDS [--seed HEX64] [--budget N] [--workers N] COMMAND [ARGUMENT]..."
 show 2 "an unknown word: no command" "$scratch/empty" stow empty
 show 2 "put of an empty name: no name" "$scratch/empty" put ""
+tells "the name is empty"
 show 2 "put of a name with a line feed: no name" "$scratch/empty" put $'a\nb'
+tells "the name has a control byte at 1"
 show 2 "put of a name of 101 letters: no name" "$scratch/empty" put "$(printf 'a%.0s' {1..101})"
+tells "the name has 101 bytes, at most 100"
 cp "$scratch"/cloud2/m-656d707479-1 "$scratch"/other
 rm "$scratch"/cloud?/m-656d707479-1
 mv "$scratch"/other "$scratch"/cloud1/m-656d707479-0
 show 11 "get where the only metadata is that of another cloud" "$scratch/empty" get empty
+tells "cloud 0 holds objects of cloud 1 of 4"
 rmdir "$scratch/cloud4" 2>/dev/null || rm -r "$scratch/cloud4"
 show 0 "get where a folder is gone: a cloud failed, and isn't needed" "$scratch/empty" get longest
 same "$scratch/longest"
@@ -116,15 +125,31 @@ rm -r "$scratch/cloud1"
 show 0 "get where two are gone" "$scratch/empty" get longest
 same "$scratch/longest"
 show 4 "put where a folder is gone: a cloud failed" "$scratch/byte" put byte
+tells "cloud 0 failed"
 rm -r "$scratch/cloud3"
 show 4 "get where three are gone" "$scratch/empty" get longest
 clouds=$scratch/cloud1,$scratch/cloud2,$scratch/cloud3
 show 2 "three clouds: too few" "$scratch/empty" get longest
+tells "width 3 is not 4 to 10"
 new_clouds 4
 show 0 "put of a byte" "$scratch/byte" put byte
 says "generation 1"
 show 0 "rm of it: what is left says that it was removed" "$scratch/empty" rm byte
 says "generation 2"
 plainly "$scratch/empty" byte 2 removed
+printf '%s\n' 'put a note 6162' 'get a note' 'rm a note' 'get a note' 'ls' >"$scratch/lines"
+show 3 "batch of five lines, the fourth of which finds no file" "$scratch/lines" batch
+says "$(printf '%s\n' "generation 1" 6162 "generation 2")"
+tells "line 4: no such file"
+new_clouds 4
+show 0 "put of a name that begins with a dash, with options" "$scratch/byte" --workers 4 put --budget=4096 -- -x
+says "generation 1"
+plainly "$scratch/byte" -x
+show 0 "get of it" "$scratch/empty" get -- -x
+same "$scratch/byte"
+show 2 "the same without dashes in between: no command" "$scratch/empty" get -x
+clouds=a,b,c,d show 0 "mill, which needs no folders" "$scratch/empty" mill 7
+same crates/nccloud/stdout
 (ulimit -v 60000; show 1 "put where 60 MB are all the memory: none was found" "$scratch/empty" put empty; exit $failed) || failed=1
+tells "out of memory"
 exit $failed

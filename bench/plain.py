@@ -6,12 +6,15 @@
     plain.py FOLDER,.. NAME GENERATION removed       the name, removed as this version
     plain.py scrub FOLDER,..                         prints what isn't right of what stands in the folders
     plain.py restore FOLDER,.. CLOUD [CLOUD]         makes the chunks of one cloud or two right again
+    plain.py mill FOLDER,.. NUMBER                   prints the line of a mill, in a minute or two; the folders needn't exist
 
 The first three write objects into empty folders. It shares no code with the program, and is as plain as it can be. Codes are
 drawn as the program draws them where nothing else is chosen: from a seed of 32 zero bytes, and from 64 candidates at most."""
 import sys
+from hashlib import sha256
+from struct import pack
 
-from plain_codes import draw_key, find_repair, find_start
+from plain_codes import candidate_block, draw_key, find_repair, find_start
 from plain_damage import restore, scrub
 from plain_objects import objects, removed
 
@@ -36,6 +39,15 @@ def repaired_objects(width, name, losses, data):
     return objects(1 + len(losses), slots, rows, plans, name, data)
 
 
+def mill(width, number):
+    """The line of a mill, whose file and whose repair have to find codes."""
+    lost = number % width
+    _, rows, plans = find_start(width, draw_key(SEED, b"mill", 1), BUDGET)
+    find_repair(rows, plans, lost, draw_key(SEED, b"mill", 2), BUDGET)
+    file = candidate_block(sha256(b"mill" + pack(">Q", number)).digest(), 0, 8 * 1024 * 1024)
+    return f"mill {number} width {width} lost {lost} fetched {width - 1} sha256 {sha256(file).hexdigest()}\n"
+
+
 def write_new(folders, name, words):
     """Writes the objects that these words ask for."""
     width = len(folders)
@@ -58,6 +70,8 @@ def main():
         sys.stdout.buffer.write(scrub(second.split(",")))
     elif first == "restore":
         sys.stdout.buffer.write(restore(second.split(","), sorted(int(cloud) for cloud in words)))
+    elif first == "mill":
+        sys.stdout.write(mill(len(second.split(",")), int(words[0])))
     else:
         write_new(first.split(","), second.encode(), words)
 

@@ -19,7 +19,7 @@ new_clouds() {
 }
 
 # show WANTED MEANING INPUT WORD..: runs the program over $clouds on a file with these words; its output goes to $output, where
-# one is given.
+# one is given. Where it ends with another status than 0, it has to tell a fault in one line on standard error.
 show() {
     local wanted=$1 meaning=$2 input=$3 status
     shift 3
@@ -27,7 +27,17 @@ show() {
     status=$?
     printf 'status %-3s %s\n' "$status" "$meaning"
     [ "$status" = "$wanted" ] || wrong "$wanted was wanted"
-    [ ! -s "$scratch/err" ] || wrong "it printed on standard error"
+    sed 's/^/           /' "$scratch/err"
+    if [ "$status" = 0 ]; then
+        [ ! -s "$scratch/err" ] || wrong "it printed on standard error"
+    else
+        [ "$(grep -c '^nccloud: .' "$scratch/err") $(wc -l <"$scratch/err")" = "1 1" ] || wrong "its fault has no line"
+    fi
+}
+
+# tells TEXT: whether the last command told exactly this fault.
+tells() {
+    printf 'nccloud: %s\n' "$1" | cmp -s - "$scratch/err" || wrong "another line was wanted: nccloud: $1"
 }
 
 # show_counting WANTED MEANING WORD..: runs the program with these words, which must succeed and read so many bytes and at most

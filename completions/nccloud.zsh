@@ -1,5 +1,5 @@
 #compdef nccloud
-# Completion of nccloud in zsh: folders, commands, and the numbers of clouds.
+# Completion of nccloud in zsh: folders, options with their texts, commands, and the numbers of clouds.
 
 _nccloud_commands() {
     local -a commands=(
@@ -12,25 +12,45 @@ _nccloud_commands() {
         'restore:make one cloud or two whole from the files themselves'
         'scrub:tell what is not right, and write nothing'
         'recover:finish what was cut off'
+        'batch:do the commands that stand in standard input'
+        'mill:work on clouds in memory, and print a digest'
     )
     _describe command commands
 }
 
 # The numbers of the clouds of the first word, but one that is given.
 _nccloud_numbers() {
-    local -a folders=("${(@s:,:)words[2]}") numbers
+    local -a folders=("${(@s:,:)line[1]}") numbers
     numbers=({0..$((${#folders} - 1))})
     compadd -- ${numbers:#$1}
 }
 
-_nccloud() {
-    case $CURRENT:$words[3] in
-        2:*) _sequence -s , -n 10 _path_files -/ ;;
-        3:*) _nccloud_commands ;;
-        4:repair|4:restore) _nccloud_numbers ;;
-        5:restore) _nccloud_numbers $words[4] ;;
+# What stands behind the command.
+_nccloud_first() {
+    case $line[2] in
+        repair|restore) _nccloud_numbers ;;
+        *) _message 'no number' ;;
+    esac
+}
+
+_nccloud_second() {
+    case $line[2] in
+        restore) _nccloud_numbers $line[3] ;;
         *) _message 'no more words' ;;
     esac
+}
+
+_nccloud() {
+    local -a line
+    local -A opt_args
+    _arguments \
+        '--seed=[what codes are drawn with]:64 hexadecimal digits: ' \
+        '--budget=[how many candidates for a code are looked at]:number from 1 to 4096:(64 256 1024 4096)' \
+        '--workers=[in how many pieces a file is mixed at once]:number from 1 to 16:(1 2 4 8 16)' \
+        '1:clouds:_sequence -s , -n 10 _path_files -/' \
+        '2:command:_nccloud_commands' \
+        '3::argument:_nccloud_first' \
+        '4::argument:_nccloud_second'
 }
 
 _nccloud "$@"
