@@ -12,6 +12,7 @@ mod putting;
 mod removing;
 mod rows;
 mod sealing;
+mod seats;
 mod tidying;
 mod writing;
 
@@ -21,6 +22,7 @@ pub use marks::mark_of;
 pub use preparing::prepare;
 pub use putting::put;
 pub use removing::remove;
-pub use sealing::{Placed, VersionWrites, seal_row, seal_version};
+pub use rows::Rows;
+pub use sealing::{Placed, RowWrites, VersionWrites, seal_rows, seal_version};
 pub use tidying::tidy;
 pub use writing::write_version;

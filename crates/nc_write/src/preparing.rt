@@ -7,7 +7,7 @@ ghost use Rattle.nc_write.specs.Putting.{IsPutOf};
 
 use crate::live::put_live;
 use crate::marks::marks_of;
-use crate::rows::{Rows, by_row};
+use crate::rows::by_row;
 use crate::sealing::{VersionWrites, seal_version};
 use nc_bytes::told_bytes;
 use nc_code::Code;
@@ -41,11 +41,10 @@ pub fn prepare<R: Threads + Sync>(
     told_bytes(bytes);
     let width = good.code().width();
     let chunks = combined(rt, alloc, good.code(), workers, bytes)?;
-    let marks = marks_of(chunks.items());
+    let marks = marks_of(rt, chunks.items(), workers);
     let live = put_live(top, generation, bytes.len() as u64, good, &marks);
     let rows = by_row(alloc, width, chunks)?;
-    let Rows { zeros, ones } = rows;
-    let writes = seal_version(alloc, width, name, &live, zeros, ones)?;
+    let writes = seal_version(rt, alloc, width, name, &live, rows, workers)?;
     Ok(writes)
 }
 

@@ -7,7 +7,7 @@ use nc_mix::Chunks;
 use nc_name::{Blob, Memory};
 use std::alloc::Global;
 
-/// The chunks of all clouds, by row.
+/// Chunks of a version, by row, each with the cloud that it goes to.
 #[derive(Debug, Drop)]
 pub struct Rows {
     pub zeros: Vec<Placed>,

@@ -1,25 +1,30 @@
 //! All writes of a version, made before the first of them.
-ghost use Rattle.std.specs.Prelude.{◌≡◌, ◌<◌, ◌≤◌, ◌++◌, ◌∷◌, [], ℕ, List, All, IfOk, OnOk};
-ghost use Rattle.nc_name.specs.Keys.{key_text, Slots};
-ghost use Rattle.nc_frame.specs.Frames.{HasFrame, Whole};
+ghost use Rattle.std.specs.Prelude.{◌≡◌, ◌<◌, ◌≤◌, All, IfOk};
 ghost use Rattle.nc_meta.specs.Metas.{IsLive, IsMeta};
 ghost use Rattle.nc_cloud.specs.Deciding.{AreAscending};
-ghost use Rattle.nc_cloud.specs.Fleet.{write};
-ghost use Rattle.nc_write.specs.declared.sealing.Placed.{Placed as PlacedChunk};
-ghost use Rattle.nc_write.specs.Writes.{AreChunkWrites, AreMetaWrites, AreVersionWrites, chunk_key as chunk_key_of, clouds_of, sealed_write};
+ghost use Rattle.nc_write.specs.Writes.{AreChunkWrites, AreMetaWrites, AreVersionWrites, clouds_of};
 
-use nc_cloud::{Done, Job};
-use nc_frame::seal;
+use crate::rows::Rows;
+use crate::seats::{seal_all, seats_of, writes_of};
+use nc_cloud::Job;
 use nc_meta::{Live, Meta};
-use nc_name::{Blob, Key, Memory, Name};
-use nc_settle::{meta_jobs, push_job};
+use nc_name::{Blob, Memory, Name};
+use nc_settle::meta_jobs;
 use std::alloc::Global;
+use std::thread::Threads;
 
 /// A chunk, and the cloud that it goes to.
 #[derive(Debug, Drop)]
 pub struct Placed {
     pub cloud: u8,
     pub chunk: Blob,
+}
+
+/// The writes of chunks of a version, by row.
+#[derive(Debug, Drop)]
+pub struct RowWrites {
+    pub first: Vec<Job>,
+    pub second: Vec<Job>,
 }
 
 /// The metadata of a version, and all its writes, by rounds.
@@ -35,25 +40,29 @@ pub struct VersionWrites {
 }
 
 /// Seals a version with these new chunks, one of each row for each of some clouds: a put's are on all clouds, a repair's on one.
-pub fn seal_version(
+pub fn seal_version<R: Threads + Sync>(
+    rt: &R,
     alloc: Global,
     width: u8,
     name: &Name,
     live: &Live,
-    zeros: Vec<Placed>,
-    ones: Vec<Placed>,
+    rows: Rows,
+    workers: u8,
 ) -> Result<VersionWrites, Memory>
     requires wide { 4 ≤ width }
     requires narrow { width ≤ 10 }
     requires fits { IsLive width live.now }
-    requires ascend { AreAscending (λ c. c) width (clouds_of zeros.items) }
-    requires same { clouds_of ones.items ≡ clouds_of zeros.items }
+    requires ascend { AreAscending (λ c. c) width (clouds_of rows.zeros.items) }
+    requires same { clouds_of rows.ones.items ≡ clouds_of rows.zeros.items }
+    requires some_workers { 1 ≤ workers }
+    requires few_workers { workers ≤ 16 }
     ensures live { IfOk result (λ w. w.live ≡ live.now) }
-    ensures made { IfOk result (AreVersionWrites width name.now zeros.items ones.items) }
+    ensures made { IfOk result
+        (AreVersionWrites width name.now rows.zeros.items rows.ones.items) }
 {
-    let first = seal_row(alloc, width, name, live, 0, zeros)?;
-    let second = seal_row(alloc, width, name, live, 1, ones)?;
+    let chunks = seal_rows(rt, alloc, width, name, live, rows, workers)?;
     let metas = metas_for(alloc, width, name, &Meta::Live(*live))?;
+    let RowWrites { first, second } = chunks;
     Ok(VersionWrites {
         live: *live,
         first,
@@ -73,81 +82,30 @@ pub fn metas_for(alloc: Global, width: u8, name: &Name, meta: &Meta) -> Result<V
     Ok(jobs)
 }
 
-/// Seals chunks as those of a row of a version. Each is let go as soon as its frame is made.
-pub fn seal_row(
+/// Seals chunks as those of a version, up to so many at once. Each is let go as soon as its frame is made.
+pub fn seal_rows<R: Threads + Sync>(
+    rt: &R,
     alloc: Global,
     width: u8,
     name: &Name,
     live: &Live,
-    row: u8,
-    chunks: Vec<Placed>,
-) -> Result<Vec<Job>, Memory>
+    rows: Rows,
+    workers: u8,
+) -> Result<RowWrites, Memory>
     requires narrow { width ≤ 10 }
     requires fits { IsLive width live.now }
-    requires pair { row < 2 }
-    requires within { All (λ x. x.cloud < width) chunks.items }
-    ensures { IfOk result (λ jobs. AreChunkWrites width name.now live.now row chunks.items jobs.items) }
+    requires within_zeros { All (λ x. x.cloud < width) rows.zeros.items }
+    requires within_ones { All (λ x. x.cloud < width) rows.ones.items }
+    requires some_workers { 1 ≤ workers }
+    requires few_workers { workers ≤ 16 }
+    ensures first { IfOk result
+        (λ w. AreChunkWrites width name.now live.now 0 rows.zeros.items w.first.items) }
+    ensures second { IfOk result
+        (λ w. AreChunkWrites width name.now live.now 1 rows.ones.items w.second.items) }
 {
-    let count = chunks.len();
-    let mut rest = chunks;
-    let mut jobs = Vec::new(alloc);
-    for _k in 0..count {
-        let placed = rest.remove(0);
-        push_chunk(&mut jobs, alloc, width, name, live, row, &placed)?;
-    }
-    Ok(jobs)
-}
-
-/// Adds the write of a chunk.
-fn push_chunk(
-    jobs: &mut Vec<Job>,
-    alloc: Global,
-    width: u8,
-    name: &Name,
-    live: &Live,
-    row: u8,
-    placed: &Placed,
-) -> Result<(), Memory>
-    requires narrow { width ≤ 10 }
-    requires fits { IsLive width live.now }
-    requires pair { row < 2 }
-    requires within { placed.now.cloud < width }
-    ensures { OnOk result ((done : List PlacedChunk) → AreChunkWrites width name.now live.now row done jobs.old.items → AreChunkWrites width name.now live.now row (done ++ placed.now ∷ []) jobs.new.items) }
-{
-    let key = chunk_key(width, name, live, row, placed.cloud);
-    let job = sealed_job(alloc, placed.cloud, width, &key, placed.chunk.bytes())?;
-    push_job(jobs, job)?;
-    Ok(())
-}
-
-/// Where a chunk of this row of a version stands on a cloud.
-fn chunk_key(width: u8, name: &Name, live: &Live, row: u8, cloud: u8) -> Key
-    requires narrow { width ≤ 10 }
-    requires fits { IsLive width live.now }
-    requires pair { row < 2 }
-    requires within { cloud < width }
-    ensures is { result ≡ chunk_key_of name.now live.now row cloud }
-    ensures slots { Slots result }
-{
-    Key::Chunk {
-        name: *name,
-        slot: live.slots[usize::from(cloud)],
-        row,
-    }
-}
-
-/// The write of a sealed object.
-fn sealed_job(alloc: Global, cloud: u8, width: u8, key: &Key, payload: &[u8]) -> Result<Job, Memory>
-    requires { Slots key.now }
-    ensures is { IfOk result (λ job. write job ≡ sealed_write width cloud key.now payload.now) }
-    ensures whole { IfOk result (λ job. Whole job.bytes) }
-    ensures fits { OnOk result (HasFrame cloud width (key_text key.now) payload.now) }
-{
-    let bytes = seal(alloc, cloud, width, key, payload)?;
-    Ok(Job {
-        cloud,
-        key: *key,
-        bytes,
-        done: Done::Waiting,
-    })
+    let zeros = rows.zeros.len();
+    let mut seats = seats_of(alloc, width, name, live, rows)?;
+    seal_all(rt, alloc, width, &mut seats, workers);
+    let writes = writes_of(alloc, seats, zeros)?;
+    Ok(writes)
 }

@@ -1,14 +1,11 @@
-use Rattle.std.proofs.Common.{◌≡◌, length, arith, subst}
-use Rattle.nc_write.specs.Marks.{AreFirstMarks}
-use Rattle.nc_write.proofs.MarkLaws.{marks_shape, zeros_past}
+use Rattle.nc_write.proofs.MarkLaws.{digests_in_front, marks_shape, zeros_past}
 use Rattle.nc_write.proofs.marks.marks_of.Goals as goal
 
+pub returns-clause-marks : goal.returns-clause-marks
+returns-clause-marks g c = digests_in_front _ _ c.requires.few c.mark_all.ensures
+
 pub returns-clause-shape : goal.returns-clause-shape
-returns-clause-shape c =
-    let all : c.loop-i.i ≡ length c.args.chunks.now = omega arith in
-    marks_shape c.args.chunks.now _ (subst (λ k. AreFirstMarks c.args.chunks.now k c.loop-i.marks) all c.loop-i.invariant)
+returns-clause-shape g c = marks_shape _ _ (digests_in_front _ _ c.requires.few c.mark_all.ensures)
 
 pub returns-clause-past : goal.returns-clause-past
-returns-clause-past c =
-    let all : c.loop-i.i ≡ length c.args.chunks.now = omega arith in
-    zeros_past c.args.chunks.now _ (subst (λ k. AreFirstMarks c.args.chunks.now k c.loop-i.marks) all c.loop-i.invariant)
+returns-clause-past g c = zeros_past _ _ (digests_in_front _ _ c.requires.few c.mark_all.ensures)

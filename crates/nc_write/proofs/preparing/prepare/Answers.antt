@@ -9,10 +9,10 @@ use Rattle.nc_write.proofs.PreparedLaws.{prepared, row_ascends, rows_same}
 use Rattle.nc_write.proofs.preparing.prepare.Goals as goal
 
 pub seal_version-requires-clause-ascend : goal.seal_version-requires-clause-ascend
-seal_version-requires-clause-ascend g c = row_ascends _ 0 _ _ c.in_ok-rows.ensures.zeros
+seal_version-requires-clause-ascend g c κs alive = row_ascends _ 0 _ _ c.in_ok-rows.ensures.zeros
 
 pub seal_version-requires-clause-same : goal.seal_version-requires-clause-same
-seal_version-requires-clause-same g c = rows_same _ _ _ _ c.in_ok-rows.ensures.zeros c.in_ok-rows.ensures.ones
+seal_version-requires-clause-same g c κs alive = rows_same _ _ _ _ c.in_ok-rows.ensures.zeros c.in_ok-rows.ensures.ones
 
 pub returns : goal.returns
 returns g c =
