@@ -22,12 +22,12 @@ use Rattle.nc_download.specs.declared.short.Bad.{Bad}
 use Rattle.nc_download.specs.declared.short.How.{How}
 use Rattle.nc_download.specs.Chunks.{wanted_of}
 use Rattle.nc_download.specs.Clouds.{IsBadRow, IsGoodRow, held_at}
+use Rattle.nc_write.specs.declared.sealing.RowWrites.{RowWrites}
 use Rattle.nc_write.specs.InTurn.{WroteInTurn}
 use Rattle.nc_write.specs.Writes.{AreChunkWrites, chunk_key}
 use Rattle.nc_write.proofs.InTurnLaws.{RoundsKeep, rounds_keep}
 use Rattle.nc_restore.specs.declared.fault.RestoreFault.{RestoreFault}
 use Rattle.nc_restore.specs.declared.fault.RestoreFault.TheVariants as fault
-use Rattle.nc_restore.specs.declared.making.RestoreWrites.{RestoreWrites}
 use Rattle.nc_restore.specs.Asking.{AskFails, JudgesAs, fault_of}
 use Rattle.nc_restore.specs.Restoring.{AreJudged, AreRestoreWrites, LacksOutside, Looked, MadeOfFile, RestoreDid, TooFewOutside, bad_count, chosen_of, count_by, restore_rounds}
 use Rattle.nc_restore.specs.Restoring.RestoreDid.{all_good, in_turn, lacking, unasked, unsound}
@@ -128,7 +128,7 @@ pub record Made {A : Type 0} (F : FleetGhosts A) (name : List ℕ) (m : Live) (P
   pub mid : A
   pub last : A
   pub looked : Looked F name m P bad old mid last
-  pub w : RestoreWrites
+  pub w : RowWrites
   pub remade : MadeOfFile F name m P bad mid last w
   pub turn : WroteInTurn F (restore_rounds w) last new answer
 
@@ -220,7 +220,7 @@ module _ {A : Type 0} (F : FleetGhosts A) (name : List ℕ) (m : Live) (P : Clou
       let how = judged_by n name m (F.held old) c r (bad r c) is (judged.judged told c r only.0 pair only.1) in
       record { within = only.0; one = only.1; row = r; pair = pair; at = at; how = how.0; bad = how.1 }
 
-  pub writes_at : (mid last : A) (bad : ℕ → Clouds) (w : RestoreWrites) → AreJudged F name m P old mid bad → (remade : MadeOfFile F name m P bad mid last w) → AreRestoreWrites n name m bad remade.file w
+  pub writes_at : (mid last : A) (bad : ℕ → Clouds) (w : RowWrites) → AreJudged F name m P old mid bad → (remade : MadeOfFile F name m P bad mid last w) → AreRestoreWrites n name m bad remade.file w
   writes_at mid last bad w judged remade = subst (λ k. AreRestoreWrites k name m bad remade.file w) judged.looked.clouds remade.are
 
   only_step : F.tells → (mid : A) (bad : ℕ → Clouds) → AreJudged F name m P old mid bad → (r : ℕ) → r < 2 → (chunks : List (List ℕ)) (jobs : List Job) → AreChunkWrites n name m r (some_row (chosen_of chunks (bad r) r) 0 n) jobs

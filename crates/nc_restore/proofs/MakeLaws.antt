@@ -13,9 +13,9 @@ use Rattle.nc_meta.specs.declared.meta.Live.{Live}
 use Rattle.nc_state.specs.Clouds.{Clouds}
 use Rattle.nc_fetch.proofs.SomeLists.{map_some, some_all_of}
 use Rattle.nc_write.specs.declared.sealing.Placed.{Placed}
+use Rattle.nc_write.specs.declared.sealing.RowWrites.{RowWrites}
 use Rattle.nc_write.specs.Putting.{placed_of}
 use Rattle.nc_write.specs.Writes.{AreChunkWrites, chunk_write}
-use Rattle.nc_restore.specs.declared.making.RestoreWrites.{RestoreWrites}
 use Rattle.nc_restore.specs.Restoring.{AreChosenTo, AreRestoreWrites, CanBeWritten, chosen_of, restore_write}
 
 -- ---- chunks taken from the front of a list
@@ -84,7 +84,7 @@ module _ (chunks : List (List ℕ)) (bad : Clouds) (r : ℕ) where
     jobs_ascend jobs made = ascend_some (λ (p : Write). p.cloud) (restore_write n name m chunks bad r) write_cloud write n jobs (writes_are jobs made)
 
 -- they can be written
-pub can_be_written : (n : ℕ) (name : List ℕ) (m : Live) (bad : ℕ → Clouds) (file : List ℕ) (w : RestoreWrites) → AreRestoreWrites n name m bad file w → CanBeWritten n w
+pub can_be_written : (n : ℕ) (name : List ℕ) (m : Live) (bad : ℕ → Clouds) (file : List ℕ) (w : RowWrites) → AreRestoreWrites n name m bad file w → CanBeWritten n w
 can_be_written n name m bad file w are = record {
   ascend_0 = jobs_ascend are.chunks (bad 0) 0 n name m w.first.items are.row_0;
   whole_0 = are.row_0.whole;

@@ -22,12 +22,12 @@ use Rattle.nc_state.specs.Versions.{IsValid, IsValidFor, Version}
 use Rattle.nc_state.specs.Versions.Version.{Stored}
 use Rattle.nc_state.proofs.CommandLaws.{stays_at_rest}
 use Rattle.nc_state.proofs.RightTests.{right_is_tested}
+use Rattle.nc_write.specs.declared.sealing.RowWrites.{RowWrites}
 use Rattle.nc_write.specs.InTurn.{WroteInTurn}
 use Rattle.nc_write.specs.Writes.{AreChunkWrites, chunk_key}
 use Rattle.nc_download.proofs.ChunkLaws.{bad_row_is_damaged, right_not_bad}
 use Rattle.nc_write.proofs.ChunkRounds.{both_right, right_still}
 use Rattle.nc_restore.specs.declared.fault.RestoreFault.{RestoreFault}
-use Rattle.nc_restore.specs.declared.making.RestoreWrites.{RestoreWrites}
 use Rattle.nc_restore.specs.Restoring.{AreJudged, AreRestoreWrites, Looked, MadeOfFile, RestoreDid, bad_count, chosen_of, restore_rounds}
 use Rattle.nc_restore.specs.Restoring.RestoreDid.{all_good, in_turn, lacking, unasked, unsound}
 use Rattle.nc_restore.specs.Restored.{CountsWrong, RightRestored, StaysResting, wrong_at, wrong_count}
@@ -57,7 +57,7 @@ module _ {A : Type 0} (F : FleetGhosts A) (name : List ℕ) (m : Live) (P : Clou
   -- of a version that stands by the metadata
   module _ (D : Clouds) (v : List ℕ) (valid : IsValidFor n m v) (places : PlacesStand n (F.held old) D name (Stored m v)) where
     -- the writes are made of it
-    chunks_of_it : (mid last : A) (bad : ℕ → Clouds) (w : RestoreWrites) → Looked F name m P bad old mid last → (remade : MadeOfFile F name m P bad mid last w) → AreRestoreWrites n name m bad v w
+    chunks_of_it : (mid last : A) (bad : ℕ → Clouds) (w : RowWrites) → Looked F name m P bad old mid last → (remade : MadeOfFile F name m P bad mid last w) → AreRestoreWrites n name m bad v w
     chunks_of_it mid last bad w looked remade =
         let clouds : F.clouds mid ≡ n = looked.judged.looked.clouds in
         let held : F.held mid ≡ F.held old = looked.judged.looked.held in
@@ -170,7 +170,7 @@ module _ {A : Type 0} (F : FleetGhosts A) (name : List ℕ) (m : Live) (P : Clou
         stays_at_rest n H G V.entries V.damaged name x is_name rests
         (subst (λ (y : Version). IsImage n (LeavesAtRest n V.damaged name y) H G) (sym is) (row_at_rest n name m bad r chunks jobs made v width pair are V.damaged H G damaged image))
 
-    turn_rests : (mid last : A) (bad : ℕ → Clouds) (w : RestoreWrites) (answer : Result (Unit {0}) RoundFault) → Looked F name m P bad old mid last → MadeOfFile F name m P bad mid last w → WroteInTurn F (restore_rounds w) last new answer → Keeps F old new AtRest
+    turn_rests : (mid last : A) (bad : ℕ → Clouds) (w : RowWrites) (answer : Result (Unit {0}) RoundFault) → Looked F name m P bad old mid last → MadeOfFile F name m P bad mid last w → WroteInTurn F (restore_rounds w) last new answer → Keeps F old new AtRest
     turn_rests mid last bad w answer looked remade turn =
         let x_is = version_is x m comes.is_top in
         let valid : IsValidFor n m x_is.0 = subst (IsValid n) x_is.1 comes.rests.rests.valid in

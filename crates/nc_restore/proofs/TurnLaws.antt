@@ -19,8 +19,8 @@ use Rattle.nc_download.specs.Clouds.{held_at}
 use Rattle.nc_restore.specs.declared.fault.RestoreFault.{RestoreFault}
 use Rattle.nc_restore.specs.Asking.{AskFails, JudgesAs, RowIsJudged, is_restored}
 use Rattle.nc_code.specs.Codes.{IsMds}
+use Rattle.nc_write.specs.declared.sealing.RowWrites.{RowWrites}
 use Rattle.nc_write.specs.InTurn.{WroteInTurn}
-use Rattle.nc_restore.specs.declared.making.RestoreWrites.{RestoreWrites}
 use Rattle.nc_restore.specs.Restoring.{AreJudged, CanBeWritten, LacksOutside, Looked, MadeOfFile, RestoreDid, bad_count, by_row, count_by, restore_rounds}
 use Rattle.nc_restore.specs.Restoring.RestoreDid.{all_good, in_turn, lacking}
 use Rattle.nc_restore.proofs.MakeLaws.{can_be_written}
@@ -146,13 +146,13 @@ module _ {A : Type 0} (F : FleetGhosts A) (name : List ℕ) (m : Live) (P : Clou
   pub did_lack : (new : A) (why : RestoreFault) → IsMds m.code → SomeBad → OnlyLooked F mid new → Stops F mid new (λ G. G ≡ F.held mid) → LacksOutside F name m mid new P why → RestoreDid F name m P old new (Err why)
   did_lack new why mds some looked stops lacks = lacking mds bad mid why (looks some looked stops) lacks refl
 
-  pub did_write : (last new : A) (writes : RestoreWrites) (answer : Result (Unit {0}) RoundFault) (result : Result ℕ RestoreFault) → IsMds m.code → SomeBad → OnlyLooked F mid last → Stops F mid last (λ G. G ≡ F.held mid)
+  pub did_write : (last new : A) (writes : RowWrites) (answer : Result (Unit {0}) RoundFault) (result : Result ℕ RestoreFault) → IsMds m.code → SomeBad → OnlyLooked F mid last → Stops F mid last (λ G. G ≡ F.held mid)
       → MadeOfFile F name m P bad mid last writes → WroteInTurn F (restore_rounds writes) last new answer → result ≡ count_by count answer → RestoreDid F name m P old new result
   did_write last new writes answer result mds some looked stops remade turn by =
       in_turn mds bad mid last (looks some looked stops) writes answer remade turn (by ∙ ap (λ k. count_by k answer) count_is)
 
 -- the writes fit the clouds
-pub fit_clouds : {A : Type 0} (F : FleetGhosts A) (name : List ℕ) (m : Live) (P : Clouds) (bad : ℕ → Clouds) (mid last : A) (w : RestoreWrites) → F.clouds last ≡ F.clouds mid → MadeOfFile F name m P bad mid last w → CanBeWritten (F.clouds last) w
+pub fit_clouds : {A : Type 0} (F : FleetGhosts A) (name : List ℕ) (m : Live) (P : Clouds) (bad : ℕ → Clouds) (mid last : A) (w : RowWrites) → F.clouds last ≡ F.clouds mid → MadeOfFile F name m P bad mid last w → CanBeWritten (F.clouds last) w
 fit_clouds F name m P bad mid last w same remade = subst (λ n. CanBeWritten n w) (sym same) (can_be_written (F.clouds mid) name m bad remade.file w remade.are)
 
 -- the clouds to be restored are among the first n

@@ -26,12 +26,12 @@ use Rattle.nc_fetch.specs.Asking.{GaveAtMost}
 use Rattle.nc_fetch.specs.Trying.{OnlyFoundFailed, TriedBetween}
 use Rattle.nc_fetch.specs.Whys.{bad_with, free, why_at}
 use Rattle.nc_write.specs.declared.sealing.Placed.{Placed}
+use Rattle.nc_write.specs.declared.sealing.RowWrites.{RowWrites}
 use Rattle.nc_write.specs.InTurn.{WroteInTurn}
 use Rattle.nc_write.specs.Putting.{placed_of}
 use Rattle.nc_write.specs.Writes.{AreChunkWrites, chunk_write}
 use Rattle.nc_restore.specs.declared.fault.RestoreFault.{RestoreFault}
 use Rattle.nc_restore.specs.declared.fault.RestoreFault.TheVariants as fault
-use Rattle.nc_restore.specs.declared.making.RestoreWrites.{RestoreWrites}
 use Rattle.nc_restore.specs.Asking.{AskFails, JudgesAs, fault_of}
 
 -- ---- which chunks aren't good
@@ -122,24 +122,24 @@ abbrev pub restore_write : ℕ → List ℕ → Live → List (List ℕ) → Clo
 restore_write n name m chunks bad r c = option_map (chunk_write n name m r) (chosen_of chunks bad r c)
 
 -- the writes of the bad chunks, made of a file
-pub record AreRestoreWrites (n : ℕ) (name : List ℕ) (m : Live) (bad : ℕ → Clouds) (file : List ℕ) (w : RestoreWrites) : Type 0 where
+pub record AreRestoreWrites (n : ℕ) (name : List ℕ) (m : Live) (bad : ℕ → Clouds) (file : List ℕ) (w : RowWrites) : Type 0 where
   pub chunks : List (List ℕ)
   pub are : AreChunksOf m.code file chunks
   pub row_0 : AreChunkWrites n name m 0 (some_row (chosen_of chunks (bad 0) 0) 0 n) w.first.items
   pub row_1 : AreChunkWrites n name m 1 (some_row (chosen_of chunks (bad 1) 1) 0 n) w.second.items
 
 -- of ascending clouds, and whole frames
-pub record CanBeWritten (n : ℕ) (w : RestoreWrites) : Type 0 where
+pub record CanBeWritten (n : ℕ) (w : RowWrites) : Type 0 where
   pub ascend_0 : AreAscending (λ j. j.cloud) n w.first.items
   pub whole_0 : All (λ j. Whole j.bytes) w.first.items
   pub ascend_1 : AreAscending (λ j. j.cloud) n w.second.items
   pub whole_1 : All (λ j. Whole j.bytes) w.second.items
 
-abbrev pub restore_rounds : RestoreWrites → List (List Write)
+abbrev pub restore_rounds : RowWrites → List (List Write)
 restore_rounds w = writes w.first.items ∷ writes w.second.items ∷ []
 
 -- the file came back from clouds outside P, and the writes were made of it
-pub record MadeOfFile {A : Type 0} (F : FleetGhosts A) (name : List ℕ) (m : Live) (P : Clouds) (bad : ℕ → Clouds) (old new : A) (w : RestoreWrites) : Type 0 where
+pub record MadeOfFile {A : Type 0} (F : FleetGhosts A) (name : List ℕ) (m : Live) (P : Clouds) (bad : ℕ → Clouds) (old new : A) (w : RowWrites) : Type 0 where
   pub file : List ℕ
   pub comes : ComesFromOutside F name m old new P file
   pub are : AreRestoreWrites (F.clouds old) name m bad file w
@@ -165,5 +165,5 @@ pub data RestoreDid {A : Type 0} (F : FleetGhosts A) (name : List ℕ) (m : Live
   unasked : IsMds m.code → (why : RestoreFault) → AskFails F P 2 old new why → result ≡ Err why → RestoreDid F name m P old new result
   all_good : IsMds m.code → (bad : ℕ → Clouds) → AreJudged F name m P old new bad → bad_count (F.clouds old) bad ≡ 0 → result ≡ Ok 0 → RestoreDid F name m P old new result
   lacking : IsMds m.code → (bad : ℕ → Clouds) (mid : A) (why : RestoreFault) → Looked F name m P bad old mid new → LacksOutside F name m mid new P why → result ≡ Err why → RestoreDid F name m P old new result
-  in_turn : IsMds m.code → (bad : ℕ → Clouds) (mid last : A) → Looked F name m P bad old mid last → (w : RestoreWrites) (answer : Result (Unit {0}) RoundFault) → MadeOfFile F name m P bad mid last w
+  in_turn : IsMds m.code → (bad : ℕ → Clouds) (mid last : A) → Looked F name m P bad old mid last → (w : RowWrites) (answer : Result (Unit {0}) RoundFault) → MadeOfFile F name m P bad mid last w
       → WroteInTurn F (restore_rounds w) last new answer → result ≡ count_by (bad_count (F.clouds old) bad) answer → RestoreDid F name m P old new result

@@ -7,30 +7,16 @@ ghost use Rattle.nc_settle.specs.MetaWrites.{named};
 ghost use Rattle.nc_write.specs.InTurn.{WroteInTurn};
 ghost use Rattle.nc_restore.specs.Restoring.{AreRestoreWrites, CanBeWritten, by_row, chosen_of, restore_rounds};
 
-use nc_cloud::{Fleet, Job, RoundFault, write_row};
+use nc_cloud::{Fleet, RoundFault, write_row};
 use nc_code::Code;
 use nc_fetch::is_named;
 use nc_meta::Live;
 use nc_mix::{Chunks, Open, encode};
 use nc_name::{Blob, Memory, Name};
 use nc_native::cut;
-use nc_write::{Placed, seal_row};
+use nc_write::{Placed, RowWrites, Rows, seal_rows};
 use std::alloc::Global;
 use std::thread::Threads;
-
-/// The writes of bad chunks, by row.
-#[derive(Debug, Drop)]
-pub struct RestoreWrites {
-    pub first: Vec<Job>,
-    pub second: Vec<Job>,
-}
-
-/// Chunks, by row.
-#[derive(Debug, Drop)]
-struct ChosenRows {
-    zeros: Vec<Placed>,
-    ones: Vec<Placed>,
-}
 
 /// Combines the file by the metadata's code, and seals the chunks that the tables name. All memory of the writes is taken here.
 pub(crate) fn make_anew<R: Threads + Sync>(
@@ -43,7 +29,7 @@ pub(crate) fn make_anew<R: Threads + Sync>(
     ones: &[bool; 10],
     file: &[u8],
     workers: u8,
-) -> Result<RestoreWrites, Memory>
+) -> Result<RowWrites, Memory>
     requires wide { 4 ≤ width }
     requires narrow { width ≤ 10 }
     requires live { IsLive width live.now }
@@ -54,10 +40,8 @@ pub(crate) fn make_anew<R: Threads + Sync>(
 {
     let chunks = combined(rt, alloc, &live.code, workers, file)?;
     let chosen = chosen_rows(alloc, width, chunks, zeros, ones)?;
-    let ChosenRows { zeros, ones } = chosen;
-    let first = seal_row(alloc, width, name, live, 0, zeros)?;
-    let second = seal_row(alloc, width, name, live, 1, ones)?;
-    Ok(RestoreWrites { first, second })
+    let writes = seal_rows(rt, alloc, width, name, live, chosen, workers)?;
+    Ok(writes)
 }
 
 /// Cuts the file and combines it by this code.
@@ -83,7 +67,7 @@ fn chosen_rows(
     chunks: Chunks,
     zeros: &[bool; 10],
     ones: &[bool; 10],
-) -> Result<ChosenRows, Memory>
+) -> Result<Rows, Memory>
     requires narrow { width ≤ 10 }
     requires count { length chunks ≡ 2 * width }
     ensures zeros { IfOk result
@@ -100,7 +84,7 @@ fn chosen_rows(
         let one = rest.remove(0);
         place(&mut second, is_named(ones, cloud), cloud, one)?;
     }
-    Ok(ChosenRows {
+    Ok(Rows {
         zeros: first,
         ones: second,
     })
@@ -131,12 +115,12 @@ fn push_placed(placed: &mut Vec<Placed>, cloud: u8, chunk: Blob) -> Result<(), M
 
 /// Writes row 0 of the bad chunks, and then row 1, each in a round, where it has entries. The first round that isn't Ok is the
 /// last.
-pub(crate) fn write_anew<F: Fleet>(fleet: &mut F, writes: RestoreWrites) -> Result<(), RoundFault>
+pub(crate) fn write_anew<F: Fleet>(fleet: &mut F, writes: RowWrites) -> Result<(), RoundFault>
     requires ready { F.ready }
     requires made { CanBeWritten (F.clouds fleet.old) writes }
     ensures rounds { WroteInTurn F.Fleet (restore_rounds writes) fleet.old fleet.new result }
 {
-    let RestoreWrites { first, second } = writes;
+    let RowWrites { first, second } = writes;
     match write_row(fleet, first) {
         Ok(()) => {}
         Err(fault) => return Err(fault),

@@ -19,13 +19,14 @@ ghost use Rattle.nc_restore.specs.Restoring.{AreJudged, LacksOutside, MadeOfFile
 
 use crate::asking::judge_row;
 use crate::fault::{RestoreFault, fault_of};
-use crate::making::{RestoreWrites, make_anew, write_anew};
+use crate::making::{make_anew, write_anew};
 use crate::reading::read_outside;
 use nc_cloud::{Fleet, RoundFault};
 use nc_fetch::is_named;
 use nc_mds::{Verdict, check};
 use nc_meta::Live;
 use nc_name::Name;
+use nc_write::RowWrites;
 use std::alloc::Global;
 use std::thread::Threads;
 
@@ -246,7 +247,7 @@ fn remake<R: Threads + Sync, F: Fleet>(
     on: &[bool; 10],
     bad: &BadRows,
     workers: u8,
-) -> Result<RestoreWrites, RestoreFault>
+) -> Result<RowWrites, RestoreFault>
     requires ready { F.ready }
     requires wide { 4 ≤ F.clouds fleet.old }
     requires narrow { F.clouds fleet.old ≤ 10 }
