@@ -2,6 +2,7 @@ pub mod SomeLists
 pub mod Growing
 pub mod FoundLaws
 pub mod RoundLaws
+pub mod SeatLaws
 pub mod TriedLaws
 pub mod TryLaws
 pub mod BatchLaws

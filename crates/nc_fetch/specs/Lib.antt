@@ -1,4 +1,5 @@
 pub mod Founds
+pub mod Seats
 pub mod Asking
 pub mod Whys
 pub mod Trying

@@ -7,11 +7,15 @@ mod founds;
 mod marking;
 mod parts;
 mod reading;
+mod rows;
+mod seats;
 mod trying;
 
 pub use causes::{marked_with, short_list};
 pub use fetching::fetch;
+pub use founds::Found;
 pub use marking::is_named;
 pub use parts::{PartFault, read_part};
 pub use reading::read_unmarked;
+pub use seats::{Seat, judge_all};
 pub use trying::{asks_on, get_row, try_clouds};

@@ -39,7 +39,7 @@ pub fn read_unmarked<R: Threads + Sync, F: Fleet>(
     ensures stops { Stops F.Fleet fleet.old fleet.new (λ G. G ≡ F.held fleet.old) }
 {
     let width = fleet.width() as u8;
-    let pieces = try_clouds(alloc, fleet, name, live, whys)?;
+    let pieces = try_clouds(rt, alloc, fleet, name, live, whys, workers)?;
     if pieces.len() + 2 < usize::from(width) {
         return Ok(None);
     }

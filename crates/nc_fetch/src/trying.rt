@@ -10,28 +10,33 @@ ghost use Rattle.nc_fetch.specs.Founds.{chunk_ask_on};
 ghost use Rattle.nc_fetch.specs.Trying.{HasTriedAll, TriesBatch};
 ghost use Rattle.nc_fetch.specs.Whys.{free};
 
-use crate::founds::{Found, judge_row};
+use crate::founds::Found;
 use crate::marking::{free_ones, good_ones, is_fine, is_named, join, whys_after};
+use crate::rows::judge_row;
 use nc_cloud::{Ask, Fleet};
 use nc_download::{Why, push_ask, wanted};
 use nc_meta::Live;
 use nc_mix::Piece;
 use nc_name::{Memory, Name};
 use std::alloc::Global;
+use std::thread::Threads;
 
 /// Tries clouds in ascending order, but for those that were found bad before: each time as many as are still wanted, until `n - 2` are
 /// good, where `n` is the number of clouds. It gives both chunks of the good ones, and marks the others.
-pub fn try_clouds<F: Fleet>(
+pub fn try_clouds<R: Threads + Sync, F: Fleet>(
+    rt: &R,
     alloc: Global,
     fleet: &mut F,
     name: &Name,
     live: &Live,
     whys: &mut [Option<Why>; 10],
+    workers: u8,
 ) -> Result<Vec<Piece>, Memory>
     requires ready { F.ready }
     requires wide { 4 ≤ F.clouds fleet.old }
     requires narrow { F.clouds fleet.old ≤ 10 }
     requires live { IsLive (F.clouds fleet.old) live.now }
+    requires some_worker { 1 ≤ workers }
     ensures tried { IfOk result
         (λ pieces. HasTriedAll F.Fleet name.now live.now fleet.old fleet.new
         whys.old whys.new pieces.items) }
@@ -44,7 +49,18 @@ pub fn try_clouds<F: Fleet>(
     'batches: while goes_on(at, width, pieces.len()) {
         let wanted = usize::from(width) - 2 - pieces.len();
         let next = batch_end(whys, at, width, wanted);
-        try_batch(alloc, fleet, name, live, at, next, whys, &mut pieces)?;
+        try_batch(
+            rt,
+            alloc,
+            fleet,
+            name,
+            live,
+            at,
+            next,
+            whys,
+            &mut pieces,
+            workers,
+        )?;
         at = next;
     }
     Ok(pieces)
@@ -90,7 +106,8 @@ fn count_with(count: usize, fine: bool) -> usize
 
 /// Tries the clouds from `at` on and below `next` that weren't found bad: row 0 of all in one round, and row 1 of those that passed in
 /// the next.
-fn try_batch<F: Fleet>(
+fn try_batch<R: Threads + Sync, F: Fleet>(
+    rt: &R,
     alloc: Global,
     fleet: &mut F,
     name: &Name,
@@ -99,6 +116,7 @@ fn try_batch<F: Fleet>(
     next: u8,
     whys: &mut [Option<Why>; 10],
     pieces: &mut Vec<Piece>,
+    workers: u8,
 ) -> Result<(), Memory>
     requires ready { F.ready }
     requires wide { 4 ≤ F.clouds fleet.old }
@@ -106,6 +124,7 @@ fn try_batch<F: Fleet>(
     requires live { IsLive (F.clouds fleet.old) live.now }
     requires later { at ≤ next }
     requires within { next ≤ F.clouds fleet.old }
+    requires some_worker { 1 ≤ workers }
     ensures tried { OnOk result
         (TriesBatch F.Fleet name.now live.now fleet.old fleet.new at next
         whys.old whys.new pieces.old.items pieces.new.items) }
@@ -113,34 +132,32 @@ fn try_batch<F: Fleet>(
     ensures stops { Stops F.Fleet fleet.old fleet.new (λ G. G ≡ F.held fleet.old) }
 {
     let width = fleet.width() as u8;
-    let zeros = ask_row(
-        alloc,
-        fleet,
-        name,
-        live,
-        0,
-        &free_ones(whys, at, next, width),
-    )?;
-    let ones = ask_row(alloc, fleet, name, live, 1, &good_ones(&zeros))?;
+    let left = free_ones(whys, at, next, width);
+    let zeros = ask_row(rt, alloc, fleet, name, live, 0, &left, workers)?;
+    let passed = good_ones(&zeros);
+    let ones = ask_row(rt, alloc, fleet, name, live, 1, &passed, workers)?;
     *whys = whys_after(whys, &zeros, &ones);
     join(width, zeros, ones, pieces)?;
     Ok(())
 }
 
 /// Asks the clouds that `on` names for their chunks of this row, in one round.
-fn ask_row<F: Fleet>(
+fn ask_row<R: Threads + Sync, F: Fleet>(
+    rt: &R,
     alloc: Global,
     fleet: &mut F,
     name: &Name,
     live: &Live,
     row: u8,
     on: &[bool; 10],
+    workers: u8,
 ) -> Result<Vec<Found>, Memory>
     requires ready { F.ready }
     requires wide { 4 ≤ F.clouds fleet.old }
     requires narrow { F.clouds fleet.old ≤ 10 }
     requires live { IsLive (F.clouds fleet.old) live.now }
     requires row { row < 2 }
+    requires some_worker { 1 ≤ workers }
     ensures asked { IfOk result
         (λ founds. RowIsAsked F.Fleet name.now live.now row (named on.now)
         fleet.old fleet.new founds.items) }
@@ -150,7 +167,7 @@ fn ask_row<F: Fleet>(
     let width = fleet.width() as u8;
     let asks = asks_on(alloc, width, name, live, row, on)?;
     let asks = get_row(fleet, asks);
-    judge_row(alloc, width, name, live, row, on, asks)
+    judge_row(rt, alloc, width, name, live, row, on, asks, workers)
 }
 
 /// The same entries, answered in one round of gets, in which each answers for itself. Where there are no entries, no round is made.

@@ -15,7 +15,7 @@ get_row-asks-requires-clause-clouds g c =
     asks_ascend n c.args.name.now c.args.live.now c.args.row (named c.args.on.now) _ all
 
 pub judge_row-requires-clause-asks : goal.judge_row-requires-clause-asks
-judge_row-requires-clause-asks g c = c.get_row-asks.ensures.entries ∙ c.in_ok-asks.ensures
+judge_row-requires-clause-asks g c κs alive = c.get_row-asks.ensures.entries ∙ c.in_ok-asks.ensures
 
 pub returns-clause-asked : goal.returns-clause-asked
 returns-clause-asked g c =
