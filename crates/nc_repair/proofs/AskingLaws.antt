@@ -1,6 +1,7 @@
 -- The asks of a repair.
 use Rattle.std.proofs.Common.{◌≡◌, ◌<◌, ◌≤◌, ◌+◌, ◌-◌, ◌⊎◌, ℕ, List, length, get_or, inl, inr, refl, sym, ap, ◌∙◌, subst, arith}
 use Rattle.std.proofs.lemmas.Bool.{cases_lt, cond_above, cond_below}
+use Rattle.std.proofs.lemmas.List.{get_or-map, length-map}
 use Rattle.nc_name.specs.declared.key.Key.{Key}
 use Rattle.nc_code.specs.Parts.{PlanParts}
 use Rattle.nc_cloud.specs.declared.fleet.Ask.{Ask}
@@ -65,3 +66,9 @@ module _ (n : ℕ) (name : List ℕ) (m : Live) (plan : PlanParts) (lost : ℕ) 
             let first : i < length (row entry 0 (n - 1)) = omega (arith, l, k) in
             subst (λ c. c < (get_or (row entry 0 (n - 1)) j d).0) (sym (cloud_at i d first)) (subst (λ c. survivor lost i < c) (sym (cloud_at j d k)) (survivors_rise lost i j l));
       })
+
+  -- the entry at position k is that of the survivor there
+  pub ask_cloud : (asks : List Ask) → AreSurvivorAsks n name m plan lost asks → (k : ℕ) (d : Ask) → k < length asks → (get_or asks k d).cloud ≡ survivor lost k
+  ask_cloud asks are k d low =
+      let long : length asks ≡ length (row entry 0 (n - 1)) = sym (length-map asks asked) ∙ ap length are.are in
+      ap (λ (x : ℕ × Key × ℕ). x.0) (sym (get_or-map asked asks k d (asked d) low) ∙ ap (λ xs. get_or xs k (asked d)) are.are) ∙ cloud_at k (asked d) (omega (arith, low, long))

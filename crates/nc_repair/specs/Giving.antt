@@ -1,5 +1,6 @@
 -- What the survivors gave.
-use Rattle.std.specs.Prelude.{ℕ, ◌≡◌, ◌+◌, ◌-◌, ◌<◌, List, [], ◌∷◌, ◌++◌, length, slice_index_or}
+use Rattle.std.specs.Prelude.{ℕ, ◌≡◌, ◌+◌, ◌-◌, ◌<◌, Result, Ok, List, [], ◌∷◌, ◌++◌, length, slice_index_or}
+use Rattle.nc_name.specs.declared.blob.Memory.{Memory}
 use Rattle.nc_native.specs.Native.{AllLong, chunk_size}
 use Rattle.nc_code.specs.Parts.{PlanParts}
 use Rattle.nc_cloud.specs.declared.fleet.Answer.{Answer}
@@ -7,6 +8,9 @@ use Rattle.nc_cloud.specs.declared.fleet.Answer.TheVariants as answer
 use Rattle.nc_cloud.specs.declared.fleet.Ask.{Ask}
 use Rattle.nc_meta.specs.declared.meta.Live.{Live}
 use Rattle.nc_download.specs.declared.judging.Wanted.{Wanted}
+use Rattle.nc_download.specs.declared.short.Why.TheVariants.{Failed, Row}
+use Rattle.nc_fetch.specs.declared.founds.Found.{Found}
+use Rattle.nc_fetch.specs.declared.founds.Found.TheVariants.{Good, Bad}
 use Rattle.nc_fetch.specs.Founds.{GivesBad, GivesGood}
 use Rattle.nc_repair.specs.declared.fault.RepairFault.{RepairFault}
 use Rattle.nc_repair.specs.declared.fault.RepairFault.TheVariants as fault
@@ -14,11 +18,18 @@ use Rattle.nc_repair.specs.Asking.{chosen_of}
 use Rattle.nc_mix.specs.Regenerating.{survivor}
 use Rattle.nc_repair.specs.Survivors.{chosen_row}
 
--- the answer gives the chunk, and its payload was added
-pub record GivesNext (w : Wanted) (a : Answer) (old new : List (List ℕ)) : Type 0 where
+-- a chunk was found good, and its payload was added
+pub record AddsGiven (found : Result Found Memory) (old new : List (List ℕ)) : Type 0 where
   pub payload : List ℕ
-  pub good : GivesGood w a payload
+  pub good : found ≡ Ok (Good payload)
   pub added : new ≡ old ++ payload ∷ []
+
+-- why what was found of cloud t is no chunk
+abbrev pub IsFaultBy : ℕ → Result Found Memory → RepairFault → Type 0
+IsFaultBy t found (fault.Cloud c) = (found ≡ Ok (Bad Failed)) × (c ≡ t)
+IsFaultBy t found (fault.Damaged c r how) = (found ≡ Ok (Bad (Row r how))) × (c ≡ t)
+IsFaultBy t found fault.Worn = ⊥
+IsFaultBy t found fault.Memory = Unit {0}
 
 -- why the answer gives no chunk of row r: its cloud failed, or the chunk isn't good
 abbrev pub IsFaultOf : Wanted → ℕ → Answer → RepairFault → Type 0

@@ -6,6 +6,7 @@ mod asking;
 mod fault;
 mod giving;
 mod live;
+mod marks;
 mod remaking;
 mod repairing;
 mod sealing;

@@ -7,14 +7,17 @@ ghost use Rattle.nc_state.specs.Right.{free_slot as free_slot_of};
 ghost use Rattle.nc_repair.specs.Mending.{mended_by};
 ghost use Rattle.nc_repair.specs.Survivors.{HasLost};
 
+use crate::marks::marks_of_both;
 use nc_meta::{Live, Meta};
 use nc_name::Blob;
 use nc_nextloss::GoodCode;
 use nc_state::free_slot;
-use nc_write::{mark_of, told_plans};
+use nc_write::told_plans;
+use std::thread::Threads;
 
 /// The metadata after the repair of the lost cloud by this code, whose new chunks are these.
-pub(crate) fn mended_live(
+pub(crate) fn mended_live<R: Threads + Sync>(
+    rt: &R,
     width: u8,
     old: &Live,
     generation: u64,
@@ -22,6 +25,7 @@ pub(crate) fn mended_live(
     good: &GoodCode,
     zero: &Blob,
     one: &Blob,
+    workers: u8,
 ) -> Live
     requires next { generation ≡ old.now.generation + 1 }
     requires last { IsGeneration generation }
@@ -32,12 +36,13 @@ pub(crate) fn mended_live(
 {
     told_plans(good.witnesses());
     let _kept = good.code().width();
+    let marks = marks_of_both(rt, zero, one, workers);
     Live {
         generation,
         len: old.len,
         code: *good.code(),
         slots: turned(width, old, lost),
-        marks: renewed(width, old, lost, &mark_of(zero), &mark_of(one)),
+        marks: renewed(width, old, lost, &marks.zero, &marks.one),
         witnesses: Some(*good.witnesses()),
     }
 }

@@ -125,7 +125,7 @@ fn made_anew<R: Threads + Sync>(
     ensures stops { IfErr result
         (StopsMending width name.now live.now plan.now lost asks.items) }
 {
-    let fetched = match given(alloc, width, name, live, plan, lost, asks) {
+    let fetched = match given(rt, alloc, width, name, live, plan, lost, asks, workers) {
         Ok(fetched) => fetched,
         Err(fault) => return Err(fault),
     };

@@ -134,7 +134,9 @@ fn repair_in_turn<R: Threads + Sync, F: Fleet>(
         Ok(pair) => pair,
         Err(fault) => return Err(fault),
     };
-    let writes = match seal_mended(alloc, width, name, before, generation, lost, good, pair) {
+    let writes = match seal_mended(
+        rt, alloc, width, name, before, generation, lost, good, pair, workers,
+    ) {
         Ok(writes) => writes,
         Err(_) => return Err(RepairFault::Memory),
     };

@@ -7,10 +7,10 @@ use Rattle.nc_repair.proofs.TurnLaws.{has_next}
 use Rattle.nc_repair.proofs.repairing.repair_in_turn.Goals as goal
 
 pub seal_mended-requires-clause-lost : goal.seal_mended-requires-clause-lost
-seal_mended-requires-clause-lost g c = subst (λ (n : ℕ). HasLost n c.args.lost c.args.before.now) (sym c.width-width.ensures) c.requires.lost
+seal_mended-requires-clause-lost g c κs alive = subst (λ (n : ℕ). HasLost n c.args.lost c.args.before.now) (sym c.width-width.ensures) c.requires.lost
 
 pub seal_mended-requires-clause-width : goal.seal_mended-requires-clause-width
-seal_mended-requires-clause-width g c =
+seal_mended-requires-clause-width g c κs alive =
     width_of (g.F.Fleet.clouds c.args.fleet.now) c.args.lost c.args.plan.now c.args.before.now c.args.good.now c.requires.code c.requires.lost.live ∙ sym c.width-width.ensures
 
 pub returns-in-Err : goal.returns-in-Err
