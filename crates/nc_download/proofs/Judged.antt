@@ -1,6 +1,8 @@
 -- What an answer shows of a chunk.
 use Rattle.std.proofs.Common.{◌≡◌, ◌≢◌, ◌+◌, ◌<◌, ℕ, Some, Option, List, length, true, refl, sym, ap, ◌∙◌, subst, arith, inl, inr}
 use Rattle.std.specs.Borrow.{Bor}
+use Rattle.sha2.specs.Sha256.{sha256}
+use Rattle.nc_bytes.specs.Bytes.{AreBytes, part}
 use Rattle.nc_name.specs.Keys.{key_text}
 use Rattle.nc_cloud.specs.declared.fleet.Answer.{Answer}
 use Rattle.nc_cloud.specs.declared.fleet.Answer.TheVariants as answer
@@ -9,9 +11,9 @@ use Rattle.nc_frame.specs.Frames.{Sealed}
 use Rattle.nc_frame.specs.Opening.{Opens}
 use Rattle.nc_frame.specs.declared.opening.Seen.{Seen}
 use Rattle.nc_frame.specs.declared.opening.Seen.TheVariants.{Payload, Misplaced, Broken}
-use Rattle.nc_frame.proofs.Shapes.{same_parts, length-frame}
+use Rattle.nc_frame.proofs.Shapes.{same_parts, sealed_of, shape_of, length-frame}
 use Rattle.nc_download.specs.declared.judging.Wanted.{Wanted}
-use Rattle.nc_download.specs.Chunks.{frame_len, IsBrokenChunk}
+use Rattle.nc_download.specs.Chunks.{frame_len, IsBrokenChunk, IsGoodChunk, IsInner, IsMarkedChunk}
 use Rattle.nc_cloud.specs.Deciding.{IsSeen}
 
 -- bytes that are no frame of here are broken
@@ -52,3 +54,50 @@ long_broken w answer.Absent seen bytes absent held shows = absurd (absent refl)
 long_broken w answer.Waiting seen bytes absent held shows = cc
 long_broken w answer.Failed seen bytes absent held shows = cc
 long_broken w answer.Memory seen bytes absent held shows = cc
+
+-- what is seen as a payload is sealed
+pub opened : (w : Wanted) (bytes : List ℕ) (seen : Seen) (p : Bor (List ℕ)) → Opens bytes w.cloud w.width (key_text w.key) seen → seen ≡ Payload p
+    → Sealed bytes w.cloud w.width (key_text w.key) p.now
+opened w bytes seen p opens is = subst (λ (s : Seen). Opens bytes w.cloud w.width (key_text w.key) s) is opens
+
+-- what stands in the payload's place of a frame is its payload
+inner_is : (w : Wanted) (bytes inner payload : List ℕ) → AreBytes bytes → IsInner w bytes inner → Sealed bytes w.cloud w.width (key_text w.key) payload → payload ≡ inner
+inner_is w bytes inner payload are is here =
+    let shape = shape_of bytes w.cloud w.width (key_text w.key) payload here.is_frame in
+    let size : length payload ≡ w.size = omega (arith, shape.total, is.total) in
+    let there = sealed_of bytes (length (key_text w.key)) (length payload) are here.fits.key_fits here.fits.payload_fits shape in
+    let at = (same_parts bytes _ _ _ _ _ _ _ _ here there).payload in
+    at ∙ ap (λ n. part (16 + length (key_text w.key)) n bytes) size ∙ sym is.at
+
+-- it has the length that the metadata tells
+pub inner_long : (w : Wanted) (bytes inner payload : List ℕ) → AreBytes bytes → IsInner w bytes inner → Sealed bytes w.cloud w.width (key_text w.key) payload → length inner ≡ w.size
+inner_long w bytes inner payload are is here =
+    let shape = shape_of bytes w.cloud w.width (key_text w.key) payload here.is_frame in
+    let same = ap length (inner_is w bytes inner payload are is here) in
+    omega (arith, shape.total, is.total, same)
+
+-- so it is good where its digest is the mark
+pub inner_good : (w : Wanted) (bytes inner payload : List ℕ) → AreBytes bytes → IsInner w bytes inner → Sealed bytes w.cloud w.width (key_text w.key) payload → sha256 inner ≡ w.mark → IsGoodChunk w (Some bytes) inner
+inner_good w bytes inner payload are is here marked = record {
+  holds = subst (λ (p : List ℕ). Sealed bytes w.cloud w.width (key_text w.key) p) (inner_is w bytes inner payload are is here) here;
+  long = inner_long w bytes inner payload are is here;
+  marked = marked;
+}
+
+-- and marked otherwise where it isn't
+pub inner_other : (w : Wanted) (bytes inner payload : List ℕ) → AreBytes bytes → IsInner w bytes inner → Sealed bytes w.cloud w.width (key_text w.key) payload → sha256 inner ≢ w.mark → IsMarkedChunk w (Some bytes)
+inner_other w bytes inner payload are is here other = record {
+  payload = inner;
+  holds = subst (λ (p : List ℕ). Sealed bytes w.cloud w.width (key_text w.key) p) (inner_is w bytes inner payload are is here) here;
+  long = inner_long w bytes inner payload are is here;
+  other = other;
+}
+
+-- bytes that are more or fewer than the frame has are broken
+pub other_length : (w : Wanted) (bytes : List ℕ) → length bytes ≢ frame_len w → IsBrokenChunk w (Some bytes)
+other_length w bytes other = record {
+  there = refl;
+  no_payload = λ payload here long.
+      let shape = shape_of bytes w.cloud w.width (key_text w.key) payload here.is_frame in
+      other (omega (arith, shape.total, long));
+}

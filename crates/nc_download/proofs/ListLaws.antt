@@ -21,7 +21,7 @@ use Rattle.nc_settle.proofs.Failures.{failed_at, failing_has}
 use Rattle.nc_download.specs.declared.fault.FetchFault.{FetchFault}
 use Rattle.nc_download.specs.declared.fault.FetchFault.TheVariants.{NoFile, Memory}
 use Rattle.nc_download.specs.declared.listing.ListStop.{ListStop}
-use Rattle.nc_download.specs.Seeing.{Refuses, ShowsOr, ShowsNothing, ShowsGone, is_no_file}
+use Rattle.nc_download.specs.Seeing.{Refuses, ShowsOr, is_no_file}
 use Rattle.nc_download.specs.FindingOnVaults.{HasAll}
 use Rattle.nc_download.specs.Listing.{AreListed, FailMore, FindRefuses, IsRefused, ListRefuses, OnlyMore, SeenOf, StayFew}
 use Rattle.nc_download.specs.ListingOnVaults.{AllShow, LenShows, ListStops, StopsFor}

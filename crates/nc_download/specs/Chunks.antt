@@ -2,6 +2,7 @@
 use Rattle.std.specs.Prelude.{ℕ, ◌≡◌, ◌≢◌, ◌+◌, ◌*◌, Option, None, Result, Ok, Err, List, [], length, slice_index, slice_index_or, IsSome, IsSomeAnd}
 use Rattle.std.specs.Borrow.{Bor}
 use Rattle.sha2.specs.Sha256.{sha256}
+use Rattle.nc_bytes.specs.Bytes.{part}
 use Rattle.nc_name.specs.declared.key.Key.{Key}
 use Rattle.nc_name.specs.declared.key.Key.TheVariants.{Chunk}
 use Rattle.nc_name.specs.Keys.{key_text}
@@ -25,6 +26,11 @@ wanted_of n name m r c = record {
 -- the bytes of its frame
 abbrev pub frame_len : Wanted → ℕ
 frame_len w = 48 + length (key_text w.key) + w.size
+
+-- the bytes are as many as its frame has, and this stands in the payload's place
+pub record IsInner (w : Wanted) (bytes inner : List ℕ) : Type 0 where
+  pub total : length bytes ≡ frame_len w
+  pub at : inner ≡ part (16 + length (key_text w.key)) w.size bytes
 
 -- what is held is a frame of this cloud, width and key with this payload
 abbrev pub HoldsPayload : Wanted → Option (List ℕ) → List ℕ → Type 0

@@ -2,6 +2,7 @@
 #![tactic(auto)]
 
 mod asks;
+mod at_once;
 mod fault;
 mod finding;
 mod judging;
@@ -10,6 +11,7 @@ mod short;
 mod showing;
 
 pub use asks::{push_ask, wanted};
+pub use at_once::judge_at_once;
 pub use fault::FetchFault;
 pub use finding::find;
 pub use judging::{Wanted, judge};

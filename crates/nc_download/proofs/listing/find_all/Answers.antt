@@ -1,7 +1,6 @@
 use Rattle.std.proofs.Common.{◌≡◌, ◌<◌, ℕ, Option, List, length, [], sym, ◌∙◌, subst, arith}
 use Rattle.std.proofs.lemmas.List.{get_or_default}
 use Rattle.nc_settle.specs.MetaWrites.{named}
-use Rattle.nc_download.specs.declared.listing.ListStop.{ListStop}
 use Rattle.nc_download.specs.Listing.{AreListed}
 use Rattle.nc_download.proofs.ListLaws.{AreLooked, all_show, list_refused, looked_more, looked_none, stops_for}
 use Rattle.nc_download.proofs.listing.find_all.Goals as goal
