@@ -18,7 +18,7 @@ use std::thread::{Threads, join};
 
 /// As `judge`. The digests of the frame and of the payload, of which one takes as long as the other, are computed at the
 /// same time, where a thread can be begun.
-pub fn judge_at_once<'a, R: Threads + Sync>(
+pub fn judge_at_once<'a, R: Threads>(
     rt: &R,
     wanted: &Wanted,
     answer: &'a Answer,
@@ -38,11 +38,7 @@ pub fn judge_at_once<'a, R: Threads + Sync>(
 }
 
 /// The payload of the chunk, where these bytes are its frame; else what is wrong.
-fn judge_bytes<'a, R: Threads + Sync>(
-    rt: &R,
-    wanted: &Wanted,
-    bytes: &'a [u8],
-) -> Result<&'a [u8], How>
+fn judge_bytes<'a, R: Threads>(rt: &R, wanted: &Wanted, bytes: &'a [u8]) -> Result<&'a [u8], How>
     requires slots { Slots wanted.now.key }
     ensures verdict { IsJudged wanted.now (Some bytes.now) result }
     ensures long { IfOk result (λ payload. length payload.now ≡ wanted.now.size) }

@@ -119,19 +119,21 @@ fn judge_seats<R: Threads + Sync>(rt: &R, alloc: Global, seats: &mut [Seat], wor
     requires some_worker { 1 ≤ workers }
     ensures { AllJudged seats.old seats.new }
 {
+    let workers = usize::from(workers);
+    let spare = seats.len() <= workers / 2;
     thread::for_each_mut(
         rt,
         seats,
-        usize::from(workers),
-        &|_, seat| judge_seat(alloc, seat),
+        workers,
+        &|_, seat| judge_seat(rt, alloc, spare, seat),
     );
 }
 
-/// Judges the answer of a seat, and lets it go.
-fn judge_seat(alloc: Global, seat: &mut Seat)
+/// Judges the answer of a seat, and lets it go. Where a worker is spare for each seat, it computes one of both digests.
+fn judge_seat<R: Threads>(rt: &R, alloc: Global, spare: bool, seat: &mut Seat)
     requires { Slots seat.old.wanted.key }
     ensures { IsJudgedSeat seat.old seat.new }
 {
-    seat.found = judge_answer(alloc, &seat.wanted, seat.row, &seat.answer);
+    seat.found = judge_answer(rt, alloc, &seat.wanted, seat.row, &seat.answer, spare);
     seat.answer = Answer::Waiting;
 }
