@@ -1,4 +1,5 @@
 pub mod Mixes
+pub mod Parts
 pub mod Missing
 pub mod Solving
 pub mod Squares

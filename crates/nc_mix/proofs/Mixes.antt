@@ -1,11 +1,13 @@
 -- Mixes of byte lists, and how they are added up.
-use Rattle.std.proofs.Common.{◌≡◌, ℕ, ◌+◌, ◌*◌, ◌<◌, List, [], length, get_or, ◌/◌, ◌%◌, ◌≤◌, ◌∷◌, ◌++◌, map, replicate, sym, ◌∙◌, ap, subst, arith}
-use Rattle.std.proofs.lemmas.List.{length-map, length-replicate, get_or-map, get_or-replicate}
-use Rattle.std.proofs.lemmas.List.FromFn.{fill_by_all, length-map-range_with_len, get_or-map-range_with_len, map-range_with_len_more}
+use Rattle.std.proofs.Common.{◌≡◌, ℕ, ◌+◌, ◌*◌, ◌<◌, ◌≤◌, List, [], ◌∷◌, ◌++◌, length, get_or, map, replicate, take, refl, sym, ◌∙◌, ap, subst, arith}
+use Rattle.std.proofs.lemmas.List.{length-map, length-replicate, get_or-map, get_or-replicate, get_or-take}
+use Rattle.std.proofs.lemmas.List.FromFn.{fill_by_all, length-map-range_with_len, get_or-map-range_with_len}
+use Rattle.std.proofs.lemmas.Simd.{map-map}
+use Rattle.std.proofs.lemmas.Grind.{common_steps, same_number_lists}
 use Rattle.std.specs.Prelude.{bit_xor}
 use Rattle.std.specs.Int.Bits.{xor_assoc, xor_zero_l, xor_zero_r}
 use Rattle.std.specs.Borrow.{Bor}
-use Rattle.std.specs.List.{range_with_len}
+use Rattle.std.specs.List.{concat, range_with_len}
 use Rattle.nc_gf256.specs.Field.{mul, total}
 use Rattle.nc_gf256.specs.Width.{native_count}
 use Rattle.nc_gf256.proofs.FieldLaws.{zero_mul_any}
@@ -13,7 +15,7 @@ use Rattle.nc_gf256.proofs.Sums.{total_nil, total_more, total_same}
 use Rattle.nc_native.specs.Native.{native, natives_of, native_len, chunk_size, combination, AllLong}
 use Rattle.nc_native.proofs.Pieces.{natives_count, native_at, native_len_of}
 use Rattle.nc_code.specs.Parts.{CodeParts}
-use Rattle.nc_mix.specs.Mixing.{mixed_byte, mixed, chunk_by, chunks_of, AreChunksOf, lent, HasAdded, HasMultiples}
+use Rattle.nc_mix.specs.Mixing.{mixed_byte, mixed, mixed_part, mixed_parts, chunk_by, chunks_of, AreChunksOf, lent, HasAdded, HasMultiples}
 
 -- one source more is added to a byte
 pub add_more : (i : ℕ) (row : List ℕ) (sources : List (List ℕ)) (p old prev new : ℕ) (source : List ℕ) → prev ≡ bit_xor old (mixed_byte i row sources p) →
@@ -37,17 +39,22 @@ no_multiples factor source start old e p h =
     let none : mul factor x ≡ 0 = ap (λ f. mul f x) e ∙ zero_mul_any x in
     sym (ap (bit_xor (get_or old p 0)) none ∙ xor_zero_r (get_or old p 0))
 
--- what is added to zeros is the sum
-pub from_zeros : (size : ℕ) (row : List ℕ) (sources : List (List ℕ)) (old new : List ℕ) → old ≡ replicate size 0 → length new ≡ size → HasAdded (length sources) row sources 0 old new → new ≡ mixed size row sources
-unfolding mixed
-from_zeros size row sources old new zeros long added =
-    fill_by_all (mixed_byte (length sources) row sources) new size 0 long (λ p h.
-    let within : p < length old = subst (λ xs. p < length xs) (sym zeros) (subst (λ m. p < m) (sym (length-replicate size 0)) h) in
-    let same : 0 + p ≡ p = omega arith in
+pub length-part : (start count : ℕ) (row : List ℕ) (sources : List (List ℕ)) → length (mixed_part start count row sources) ≡ count
+unfolding mixed_part
+length-part start count row sources = length-map-range_with_len (mixed_byte (length sources) row sources) start count
+
+-- what is added to zeros is the part of the mix
+pub from_zeros : (start count : ℕ) (row : List ℕ) (sources : List (List ℕ)) (old new : List ℕ) → old ≡ replicate count 0 → length new ≡ count → HasAdded (length sources) row sources start old new
+    → new ≡ mixed_part start count row sources
+unfolding mixed_part
+from_zeros start count row sources old new zeros long added =
+    same_number_lists new (mixed_part start count row sources) (long ∙ sym (length-part start count row sources)) (λ p inside.
+    let h : p < count = subst (λ m. p < m) long inside in
+    let within : p < length old = subst (λ xs. p < length xs) (sym zeros) (subst (λ m. p < m) (sym (length-replicate count 0)) h) in
     added p within
-    ∙ ap (λ x. bit_xor x (mixed_byte (length sources) row sources (0 + p))) (ap (λ xs. get_or xs p 0) zeros ∙ get_or-replicate size p 0 0 h)
-    ∙ xor_zero_l (mixed_byte (length sources) row sources (0 + p))
-    ∙ ap (mixed_byte (length sources) row sources) same)
+    ∙ ap (λ x. bit_xor x (mixed_byte (length sources) row sources (start + p))) (ap (λ xs. get_or xs p 0) zeros ∙ get_or-replicate count p 0 0 h)
+    ∙ xor_zero_l (mixed_byte (length sources) row sources (start + p))
+    ∙ sym (get_or-map-range_with_len (mixed_byte (length sources) row sources) start count p (start + p) 0 h refl))
 
 -- the list behind a reference, whatever is read past the end
 pub lent_at : (sources : List (Bor (List ℕ))) (i : ℕ) (d : Bor (List ℕ)) → i < length sources → get_or (lent sources) i [] ≡ (get_or sources i d).now
@@ -57,14 +64,15 @@ pub lent_long : (sources : List (Bor (List ℕ))) (size i : ℕ) (d : Bor (List 
 lent_long sources size i d long h =
     ap length (sym (lent_at sources i d h)) ∙ long i (subst (λ m. i < m) (sym (length-map sources (λ s. s.now))) h)
 
--- one chunk more is made
-pub chunk_more : (rows natives sources chunks : List (List ℕ)) (k size : ℕ) (row chunk : List ℕ) → chunks ≡ chunks_of k rows natives → sources ≡ natives → size ≡ native_len natives →
-    row ≡ get_or rows (2 * (k / 2) + k % 2) [] → chunk ≡ mixed size row sources → chunks ++ (chunk ∷ []) ≡ chunks_of (k + 1) rows natives
-chunk_more rows natives sources chunks k size row chunk before same long is made =
-    let place : 2 * (k / 2) + k % 2 ≡ k = omega arith in
-    let chunk_is : chunk ≡ chunk_by rows natives k =
-    made ∙ ap (mixed size row) same ∙ ap (λ n. mixed n row natives) long ∙ ap (λ r. mixed (native_len natives) r natives) (is ∙ ap (λ j. get_or rows j []) place) in
-    ap (λ cs. cs ++ (chunk ∷ [])) before ∙ ap (λ c. chunks_of k rows natives ++ (c ∷ [])) chunk_is ∙ sym (map-range_with_len_more (chunk_by rows natives) 0 k k (omega arith))
+-- the mixes by the first rows are the first chunks
+pub first_chunks : (count size : ℕ) (rows natives sources made : List (List ℕ)) → count ≤ length rows → size ≡ native_len natives → sources ≡ natives → made ≡ take count rows →
+    map (λ row. mixed size row sources) made ≡ chunks_of count rows natives
+first_chunks count size rows natives sources made within long same are =
+    let first : take count rows ≡ map (λ k. get_or rows k []) (range_with_len 0 count) =
+    fill_by_all (λ k. get_or rows k []) (take count rows) count [] (grind (arith, common_steps)) (λ k h. get_or-take count rows k [] h) in
+    (λ i. map (λ row. mixed (long i) row (same i)) (are i))
+    ∙ ap (map (λ row. mixed (native_len natives) row natives)) first
+    ∙ map-map (λ row. mixed (native_len natives) row natives) (λ k. get_or rows k []) (range_with_len 0 count)
 
 -- the mix of a file's natives is their combination
 pub mixed_natives : (v row : List ℕ) (n : ℕ) → mixed (chunk_size (length v) n) row (natives_of v n) ≡ combination row v n
@@ -98,3 +106,9 @@ first_long sources natives first n same count wide is =
 pub length-mixed : (size : ℕ) (row : List ℕ) (sources : List (List ℕ)) → length (mixed size row sources) ≡ size
 unfolding mixed
 length-mixed size row sources = length-map-range_with_len (mixed_byte (length sources) row sources) 0 size
+
+-- the first row's part, and the parts after it
+pub parts_more : (start count long : ℕ) (row : List ℕ) (rows rest sources : List (List ℕ)) (part after : List ℕ) → rows ≡ row ∷ rest → long ≡ count → part ≡ mixed_part start long row sources →
+    after ≡ concat (mixed_parts start count rest sources) → part ++ after ≡ concat (mixed_parts start count rows sources)
+parts_more start count long row rows rest sources part after are fits is others =
+    (λ i. (is ∙ ap (λ n. mixed_part start n row sources) fits) i ++ others i) ∙ sym (ap (λ xs. concat (mixed_parts start count xs sources)) are)

@@ -3,9 +3,9 @@ use Rattle.std.proofs.Common.{◌≡◌, ℕ, ◌+◌, ◌-◌, ◌*◌, ◌<◌
 use Rattle.std.proofs.lemmas.List.{map-append, append_assoc, take_more, take-replicate, drop-replicate, length-append}
 use Rattle.std.specs.Borrow.{Bor}
 use Rattle.nc_mix.specs.declared.pieces.Piece.{Piece}
-use Rattle.nc_mix.specs.Mixing.{mixed, lent, HasAdded}
+use Rattle.nc_mix.specs.Mixing.{mixed, lent}
 use Rattle.nc_mix.specs.Decoding.{chunks_in, solved}
-use Rattle.nc_mix.proofs.Mixes.{from_zeros, length-mixed}
+use Rattle.nc_mix.proofs.Mixes.{length-mixed}
 
 chunks_in-append : (xs ys : List Piece) → chunks_in (xs ++ ys) ≡ chunks_in xs ++ chunks_in ys
 chunks_in-append [] ys = refl
@@ -24,24 +24,6 @@ pieces_more pieces i piece list first second zero one h is with_zero with_one is
     ∙ sym (chunks_in-append (take i pieces) (piece ∷ []))
     ∙ ap (λ x. chunks_in (take i pieces ++ (x ∷ []))) is
     ∙ ap chunks_in (sym (take_more pieces i piece h))
-
--- the zeros of the first part, and of the parts after it
-pub zeros_first : (n m size : ℕ) (dst part : List ℕ) → dst ≡ replicate (n * size) 0 → n ≡ suc m → part ≡ take size dst → part ≡ replicate size 0
-zeros_first n m size dst part zeros more is =
-    is ∙ ap (take size) zeros ∙ take-replicate size (n * size) 0 (subst (λ k. size ≤ k * size) (sym more) (omega arith))
-
-pub zeros_rest : (n m size : ℕ) (dst rest : List ℕ) → dst ≡ replicate (n * size) 0 → n ≡ suc m → rest ≡ drop size dst → rest ≡ replicate (m * size) 0
-zeros_rest n m size dst rest zeros more is =
-    let left : n * size - size ≡ m * size = subst (λ k. k * size - size ≡ m * size) (sym more) (omega arith) in
-    is ∙ ap (drop size) zeros ∙ drop-replicate size (n * size) 0 ∙ ap (λ k. replicate k 0) left
-
--- the first part is the mix by the first row, and the parts after it those by the other rows
-pub solve_first : (size : ℕ) (sources rows rest : List (List ℕ)) (row old part after : List ℕ) → rows ≡ row ∷ rest → old ≡ replicate size 0 → length part ≡ size →
-    HasAdded (length sources) row sources 0 old part → after ≡ solved size sources rest → part ++ after ≡ solved size sources rows
-solve_first size sources rows rest row old part after are zeros long added others =
-    ap (λ xs. xs ++ after) (from_zeros size row sources old part zeros long added)
-    ∙ ap (λ xs. mixed size row sources ++ xs) others
-    ∙ sym (ap (solved size sources) are)
 
 pub length-solved : (size : ℕ) (sources rows : List (List ℕ)) → length (solved size sources rows) ≡ length rows * size
 length-solved size sources [] = let e : 0 ≡ 0 * size = omega arith in e

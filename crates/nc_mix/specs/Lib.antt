@@ -1,3 +1,4 @@
 pub mod Mixing
 pub mod Decoding
 pub mod Regenerating
+pub mod Strips

@@ -15,6 +15,14 @@ mixed_byte count row sources p = total count (λ i. mul (slice_index row i) (sli
 unfoldable pub mixed : ℕ → List ℕ → List (List ℕ) → List ℕ
 mixed size row sources = map (mixed_byte (length sources) row sources) (range_with_len 0 size)
 
+-- so many bytes of a mix from start on
+unfoldable pub mixed_part : ℕ → ℕ → List ℕ → List (List ℕ) → List ℕ
+mixed_part start count row sources = map (mixed_byte (length sources) row sources) (range_with_len start count)
+
+-- the same part of the mix by each row
+abbrev pub mixed_parts : ℕ → ℕ → List (List ℕ) → List (List ℕ) → List (List ℕ)
+mixed_parts start count rows sources = map (λ row. mixed_part start count row sources) rows
+
 -- chunk k is the mix of the natives by row k
 abbrev pub chunk_by : List (List ℕ) → List (List ℕ) → ℕ → List ℕ
 chunk_by rows natives k = mixed (native_len natives) (slice_index_or rows k []) natives

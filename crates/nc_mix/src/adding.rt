@@ -1,88 +1,47 @@
-ghost use Rattle.std.specs.Prelude.{◌≡◌, ◌+◌, ◌≤◌, length, replicate, IfOk};
+ghost use Rattle.std.specs.Prelude.{◌≡◌, ◌+◌, ◌*◌, ◌≤◌, length, replicate, IfOk};
 ghost use Rattle.std.specs.Borrow.{Bor};
+ghost use Rattle.std.specs.List.{concat};
 ghost use Rattle.nc_native.specs.Native.{AllLong};
-ghost use Rattle.nc_mix.specs.Mixing.{HasAdded, HasMultiples, lent, mixed};
+ghost use Rattle.nc_mix.specs.Mixing.{HasAdded, HasMultiples, lent, mixed_part, mixed_parts};
 
-use crate::gates::Gate;
 use nc_lanes::mul_add;
-use nc_name::{Blob, Memory};
-use std::alloc::Global;
-use std::thread;
-use std::thread::Threads;
 
-// So many bytes of a sum are finished before the next ones are begun: they stay in the nearest cache meanwhile.
-const STRIP: usize = 16384;
-
-/// The sum of multiples of the sources: the first entry of the row times the first source, and so on.
-pub fn mix<R: Threads + Sync, G: Gate + Sync>(
-    rt: &R,
-    alloc: Global,
-    sources: &[&[u8]],
-    row: &[u8; 16],
-    size: usize,
-    workers: u8,
-    gate: &G,
-) -> Result<Blob, Memory>
-    requires count { length (lent sources.now) ≤ 16 }
-    requires long { AllLong size (lent sources.now) }
-    requires some_worker { 1 ≤ workers }
-    ensures { IfOk result (λ blob. blob ≡ mixed size row.now (lent sources.now)) }
-{
-    let mut sum = zeros(alloc, size)?;
-    add_all(rt, &mut sum, sources, row, workers, gate);
-    Ok(Blob::from_vec(sum))
-}
-
-/// Adds the multiples of the sources to `dst`, which is cut into consecutive parts, at most one for each worker.
-pub fn add_all<R: Threads + Sync, G: Gate + Sync>(
-    rt: &R,
+/// Writes a part of each row's mix, one after another: so many bytes from `start` on.
+pub fn mix_parts(
     dst: &mut [u8],
     sources: &[&[u8]],
-    row: &[u8; 16],
-    workers: u8,
-    gate: &G,
+    rows: &[[u8; 16]],
+    size: usize,
+    start: usize,
+    count: usize,
 )
-    requires count { length (lent sources.now) ≤ 16 }
-    requires long { AllLong (length dst.old) (lent sources.now) }
-    requires some_worker { 1 ≤ workers }
-    ensures { HasAdded (length (lent sources.now)) row.now (lent sources.now) 0 dst.old dst.new }
-{
-    let size = dst.len();
-    let part_size = size.div_ceil(workers as usize).max(1);
-    thread::for_each_chunk_mut(
-        rt,
-        dst,
-        part_size,
-        &|start: usize, part: &mut [u8]|
-            requires count { length (lent sources.now) ≤ 16 }
-            requires long { AllLong size (lent sources.now) }
-            requires fits { start + length part.now ≤ size }
-            ensures { HasAdded (length (lent sources.entry.now)) row.entry.now (lent sources.entry.now) start part.entry.now part.exit.now }
-        {
-            gate.enter();
-            add_part(part, sources, row, size, start);
-        },
-    );
-}
-
-/// Adds the multiples of the sources to the part of the sum that begins at `start`, strip by strip.
-fn add_part(dst: &mut [u8], sources: &[&[u8]], row: &[u8; 16], size: usize, start: usize)
-    requires count { length (lent sources.now) ≤ 16 }
+    requires few { length (lent sources.now) ≤ 16 }
     requires long { AllLong size (lent sources.now) }
-    requires fits { start + length dst.old ≤ size }
-    ensures { HasAdded (length (lent sources.now)) row.now (lent sources.now) start dst.old dst.new }
+    requires fits { start + count ≤ size }
+    requires room { length dst.old ≡ length rows.now * count }
+    ensures { dst.new ≡ concat (mixed_parts start count rows.now (lent sources.now)) }
 {
-    let mut at = 0;
-    while at < dst.len() {
-        let end = at + STRIP.min(dst.len() - at);
-        add_strip(&mut dst[at..end], sources, row, size, start + at);
-        at = end;
+    if let Some((row, rest)) = rows.split_first() {
+        let (part, after) = dst.split_at_mut(count);
+        mix_part(part, sources, row, size, start);
+        mix_parts(after, sources, rest, size, start, count);
     }
 }
 
-/// Adds the multiples of the sources to the strip of the sum that begins at `start`.
-fn add_strip(dst: &mut [u8], sources: &[&[u8]], row: &[u8; 16], size: usize, start: usize)
-    requires count { length (lent sources.now) ≤ 16 }
+/// Writes the part of one row's mix that begins at `start`.
+fn mix_part(dst: &mut [u8], sources: &[&[u8]], row: &[u8; 16], size: usize, start: usize)
+    requires few { length (lent sources.now) ≤ 16 }
+    requires long { AllLong size (lent sources.now) }
+    requires fits { start + length dst.old ≤ size }
+    ensures { dst.new ≡ mixed_part start (length dst.old) row.now (lent sources.now) }
+{
+    dst.fill(0);
+    add_sources(dst, sources, row, size, start);
+}
+
+/// Adds the multiples of the sources to the part of the sum that begins at `start`.
+fn add_sources(dst: &mut [u8], sources: &[&[u8]], row: &[u8; 16], size: usize, start: usize)
+    requires few { length (lent sources.now) ≤ 16 }
     requires long { AllLong size (lent sources.now) }
     requires fits { start + length dst.old ≤ size }
     ensures { HasAdded (length (lent sources.now)) row.now (lent sources.now) start dst.old dst.new }
@@ -102,17 +61,4 @@ fn add_from(dst: &mut [u8], source: &[u8], start: usize, factor: u8)
     }
     let end = start + dst.len();
     mul_add(dst, &source[start..end], factor);
-}
-
-/// So many zeros.
-pub fn zeros(alloc: Global, size: usize) -> Result<Vec<u8>, Memory>
-    ensures { IfOk result (λ v. v.items ≡ replicate size 0) }
-{
-    let Ok(mut bytes) = Vec::with_capacity(alloc, size) else {
-        return Err(Memory);
-    };
-    if bytes.resize(size, 0).is_err() {
-        return Err(Memory);
-    }
-    Ok(bytes)
 }

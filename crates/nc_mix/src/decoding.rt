@@ -1,4 +1,4 @@
-ghost use Rattle.std.specs.Prelude.{◌≡◌, ℕ, ◌+◌, ◌*◌, ◌<◌, ◌≤◌, List, length, replicate, take, IfOk};
+ghost use Rattle.std.specs.Prelude.{◌≡◌, ℕ, ◌+◌, ◌*◌, ◌<◌, ◌≤◌, List, length, take, IfOk};
 ghost use Rattle.std.specs.Borrow.{Bor};
 ghost use Rattle.std.specs.List.{All, AllPairs};
 ghost use Rattle.nc_bytes.specs.Bytes.{AreBytes};
@@ -8,9 +8,10 @@ ghost use Rattle.nc_code.specs.Codes.{IsMds};
 ghost use Rattle.nc_mix.specs.Mixing.{lent};
 ghost use Rattle.nc_mix.specs.Decoding.{HoldsBytes, HoldsRows, Inverts, IsBefore, IsLong, IsPieceOf, IsSolution, chunks_in, solved};
 
-use crate::adding::{add_all, zeros};
 use crate::gates::Gate;
 use crate::pieces::Piece;
+use crate::placing::place_blocks;
+use crate::strips::strips_for;
 use nc_bytes::told_bytes;
 use nc_code::Code;
 use nc_matrix::{Outcome, Square, invert};
@@ -75,12 +76,12 @@ fn inverse_of(pieces: &[Piece], code: &Code) -> Square
 }
 
 /// The first `count` rows.
-pub fn first_rows(cells: &[[u8; 16]; 16], count: usize) -> &[[u8; 16]]
-    requires { count ≤ 16 }
+pub fn first_rows(table: &[[u8; 16]], count: usize) -> &[[u8; 16]]
+    requires { count ≤ length table.now }
     ensures count { length result.now ≡ count }
-    ensures rows { result.now ≡ take count cells.now }
+    ensures rows { result.now ≡ take count table.now }
 {
-    &cells[..count]
+    &table[..count]
 }
 
 /// The square of the pieces' rows, two for each piece in order.
@@ -124,32 +125,23 @@ pub fn decode_with<R: Threads + Sync, G: Gate + Sync>(
         return Err(Memory);
     };
     let mut file = zeros(alloc, total)?;
-    solve_into(rt, &mut file, &sources, rows, size, workers, gate);
+    let mut strips = strips_for(alloc, workers)?;
+    place_blocks(rt, &mut file, &mut strips, &sources, rows, size, gate)?;
     file.truncate(len);
     Ok(Blob::from_vec(file))
 }
 
-/// Writes what each row makes of the sources into its part of `dst`, which holds zeros.
-fn solve_into<R: Threads + Sync, G: Gate + Sync>(
-    rt: &R,
-    dst: &mut [u8],
-    sources: &[&[u8]],
-    rows: &[[u8; 16]],
-    size: usize,
-    workers: u8,
-    gate: &G,
-)
-    requires count { length (lent sources.now) ≤ 16 }
-    requires long { AllLong size (lent sources.now) }
-    requires some_worker { 1 ≤ workers }
-    requires zeros { dst.old ≡ replicate (length rows.now * size) 0 }
-    ensures { dst.new ≡ solved size (lent sources.now) rows.now }
+/// So many zeros.
+fn zeros(alloc: Global, size: usize) -> Result<Vec<u8>, Memory>
+    ensures { IfOk result (λ v. length v.items ≡ size) }
 {
-    if let Some((row, rest)) = rows.split_first() {
-        let (part, after) = dst.split_at_mut(size);
-        add_all(rt, part, sources, row, workers, gate);
-        solve_into(rt, after, sources, rest, size, workers, gate);
+    let Ok(mut bytes) = Vec::with_capacity(alloc, size) else {
+        return Err(Memory);
+    };
+    if bytes.resize(size, 0).is_err() {
+        return Err(Memory);
     }
+    Ok(bytes)
 }
 
 /// The bytes of each chunk.

@@ -5,8 +5,9 @@ ghost use Rattle.nc_native.specs.Native.{natives_of, native_len, AllLong};
 ghost use Rattle.nc_mix.specs.Mixing.{AreChunksOf, chunks_of, lent};
 
 use crate::Chunks;
-use crate::adding::mix;
+use crate::decoding::first_rows;
 use crate::gates::Gate;
+use crate::sums::mix_rows;
 use nc_code::Code;
 use nc_name::{Blob, Memory};
 use nc_native::Natives;
@@ -31,15 +32,10 @@ pub fn encode<R: Threads + Sync, G: Gate + Sync>(
     ensures count { IfOk result (λ chunks. length chunks ≡ 2 * code.now.width) }
     ensures of_file { IfOk result (λ chunks. (v : List ℕ) → natives.now ≡ natives_of v code.now.width → AreChunksOf code.now v chunks) }
 {
-    let width = code.width();
+    let rows = first_rows(&code.rows, 2 * code.width() as usize);
     let sources = lend(alloc, natives.items())?;
     let size = sources[0].len();
-    let mut chunks = Chunks::new(alloc);
-    for k in 0..2 * width {
-        let row = code.row(k / 2, k % 2);
-        chunks.push(mix(rt, alloc, &sources, &row, size, workers, gate)?)?;
-    }
-    Ok(chunks)
+    mix_rows(rt, alloc, &sources, rows, size, workers, gate)
 }
 
 /// The bytes of each blob.

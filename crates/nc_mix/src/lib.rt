@@ -8,7 +8,11 @@ mod decoding;
 mod encoding;
 mod gates;
 mod pieces;
+mod placing;
 mod regenerating;
+mod strips;
+mod sum;
+mod sums;
 
 pub use decoding::decode;
 pub use encoding::encode;

@@ -1,11 +1,12 @@
-ghost use Rattle.std.specs.Prelude.{◌≡◌, ◌+◌, ◌<◌, ◌≤◌, length, IfOk};
+ghost use Rattle.std.specs.Prelude.{◌≡◌, ◌+◌, ◌<◌, ◌≤◌, [], ◌∷◌, length, IfOk};
 ghost use Rattle.nc_native.specs.Native.{AllLong, native_len};
 ghost use Rattle.nc_mix.specs.Regenerating.{IsRegenerated, RepairsFile, factor_at, factors, survivor};
 
-use crate::adding::mix;
+use crate::Chunks;
 use crate::encoding::lend;
 use crate::gates::Gate;
 use crate::pieces::Pair;
+use crate::sums::mix_rows;
 use nc_code::Plan;
 use nc_name::{Blob, Memory};
 use std::alloc::Global;
@@ -38,9 +39,20 @@ pub fn regenerate<R: Threads + Sync, G: Gate + Sync>(
     let size = fetched[0].bytes().len();
     let zeroth = factors_of(plan, lost, 0);
     let first = factors_of(plan, lost, 1);
-    let zero = mix(rt, alloc, &sources, &zeroth, size, workers, gate)?;
-    let one = mix(rt, alloc, &sources, &first, size, workers, gate)?;
-    Ok(Pair { zero, one })
+    let rows = [zeroth, first];
+    Ok(pair_of(mix_rows(rt, alloc, &sources, &rows, size, workers, gate)?))
+}
+
+/// Two chunks as a pair.
+fn pair_of(chunks: Chunks) -> Pair
+    requires { length chunks ≡ 2 }
+    ensures { chunks ≡ result.zero ∷ result.one ∷ [] }
+{
+    let mut items = chunks.into_items();
+    match (items.pop(), items.pop()) {
+        (Some(one), Some(zero)) => Pair { zero, one },
+        _ => unreachable!(),
+    }
 }
 
 /// The survivors' factors in the new row `r`, by position.

@@ -1,25 +1,36 @@
-use Rattle.std.proofs.Common.{◌≡◌, ◌*◌, ◌∙◌, ap, sym, subst, length, arith}
-use Rattle.std.proofs.lemmas.Grind.{common_steps}
+use Rattle.std.proofs.Common.{◌≡◌, ◌*◌, ◌≤◌, ◌∙◌, ℕ, List, ap, sym, subst, length, take, arith}
+use Rattle.std.proofs.lemmas.Result.{IfOk-weaker}
 use Rattle.std.proofs.lemmas.List.FromFn.{length-map-range_with_len}
+use Rattle.nc_native.specs.Native.{natives_of}
+use Rattle.nc_code.specs.Parts.{CodeParts}
 use Rattle.nc_mix.specs.Mixing.{lent, chunk_by, chunks_of, AreChunksOf}
-use Rattle.nc_mix.proofs.Mixes.{chunk_more, chunks_of_file, first_long}
+use Rattle.nc_mix.proofs.Mixes.{first_chunks, chunks_of_file, first_long}
 use Rattle.nc_mix.proofs.encoding.encode.Goals as goal
 
-pub loop-k-preserved : goal.loop-k-preserved
-loop-k-preserved g c =
+pub returns-clause-chunks : goal.returns-clause-chunks
+returns-clause-chunks g c =
     let lent_is : lent c.in_ok-sources.sources.items ≡ c.args.natives.now = c.in_ok-sources.ensures ∙ c.items.ensures in
-    let sources_are : lent c.deref.result.now ≡ c.args.natives.now = ap lent c.deref.ensures.value ∙ lent_is in
-    let long = first_long c.in_ok-sources.sources.items c.args.natives.now c.index.result.now c.args.code.now.width lent_is c.requires.count c.width-width.ensures.kept.wide c.index.ensures in
-    c.in_ok-push.ensures.ok
-    ∙ chunk_more c.args.code.now.rows c.args.natives.now (lent c.deref.result.now) c.loop-k.chunks c.loop-k.k (length c.index.result.now.now) c.row-row.result c.in_ok-mix.field-0
-    c.loop-k.invariant sources_are long c.row-row.ensures c.in_ok-mix.ensures
+    let sources : lent c.deref.result.now ≡ c.args.natives.now = ap lent c.deref.ensures.value ∙ lent_is in
+    let long = first_long c.in_ok-sources.sources.items c.args.natives.now c.index.result.now c.args.code.now.width lent_is c.requires.count c.width.ensures.kept.wide c.index.ensures in
+    let narrow : c.args.code.now.width ≤ 10 = c.width.ensures.kept.narrow in
+    let all : length c.args.code.now.rows ≡ 20 = c.width.ensures.kept.shape.count in
+    let rows : c.first_rows-rows.result.now ≡ take (2 * c.args.code.now.width) c.args.code.now.rows =
+    c.first_rows-rows.ensures.rows ∙ (λ i. take (2 * c.width.ensures.width i) (c.code.view_is i).rows) in
+    IfOk-weaker c.mix_rows.result _ (λ (chunks : List (List ℕ)). chunks ≡ chunks_of (2 * c.args.code.now.width) c.args.code.now.rows c.args.natives.now)
+    (λ chunks is. is ∙ first_chunks (2 * c.args.code.now.width) (length c.index.result.now.now) c.args.code.now.rows c.args.natives.now (lent c.deref.result.now) c.first_rows-rows.result.now (omega arith) long sources rows)
+    c.mix_rows.ensures
 
 pub returns-clause-count : goal.returns-clause-count
 returns-clause-count g c =
-    let value : c.loop-k.chunks ≡ chunks_of (2 * c.args.code.now.width) c.args.code.now.rows c.args.natives.now = grind (arith, common_steps) in
-    ap length value ∙ length-map-range_with_len (chunk_by c.args.code.now.rows c.args.natives.now) 0 (2 * c.args.code.now.width)
+    let wanted : List (List ℕ) = chunks_of (2 * c.args.code.now.width) c.args.code.now.rows c.args.natives.now in
+    IfOk-weaker c.mix_rows.result (λ (chunks : List (List ℕ)). chunks ≡ wanted) (λ (chunks : List (List ℕ)). length chunks ≡ 2 * c.args.code.now.width)
+    (λ chunks is. ap length is ∙ length-map-range_with_len (chunk_by c.args.code.now.rows c.args.natives.now) 0 (2 * c.args.code.now.width))
+    (returns-clause-chunks g c)
 
 pub returns-clause-of_file : goal.returns-clause-of_file
-returns-clause-of_file g c v e =
-    let value : c.loop-k.chunks ≡ chunks_of (2 * c.args.code.now.width) c.args.code.now.rows c.args.natives.now = grind (arith, common_steps) in
-    subst (AreChunksOf c.args.code.now v) (sym (value ∙ ap (chunks_of (2 * c.args.code.now.width) c.args.code.now.rows) e)) (chunks_of_file c.args.code.now v c.width-width.ensures.kept.wide)
+returns-clause-of_file g c =
+    let code : CodeParts = c.args.code.now in
+    IfOk-weaker c.mix_rows.result (λ (chunks : List (List ℕ)). chunks ≡ chunks_of (2 * code.width) code.rows c.args.natives.now)
+    (λ (chunks : List (List ℕ)). (v : List ℕ) → c.args.natives.now ≡ natives_of v code.width → AreChunksOf code v chunks)
+    (λ chunks is v e. subst (AreChunksOf code v) (sym (is ∙ ap (chunks_of (2 * code.width) code.rows) e)) (chunks_of_file code v c.width.ensures.kept.wide))
+    (returns-clause-chunks g c)

@@ -1,7 +1,7 @@
 use Rattle.std.proofs.Common.{◌+◌, [], get_or, sym, arith}
 use Rattle.nc_mix.specs.Mixing.{lent}
 use Rattle.nc_mix.proofs.Mixes.{none_added, add_more, lent_at, lent_long}
-use Rattle.nc_mix.proofs.adding.add_strip.Goals as goal
+use Rattle.nc_mix.proofs.adding.add_sources.Goals as goal
 
 pub loop-i-init : goal.loop-i-init
 loop-i-init c = none_added c.args.row.now (lent c.args.sources.now) c.args.start c.args.dst.now

@@ -1,0 +1,16 @@
+use Rattle.std.proofs.Common.{◌≡◌, ◌++◌, ◌∙◌, ℕ, List, drop, length, map, take, arith}
+use Rattle.std.proofs.lemmas.List.{take_at}
+use Rattle.std.proofs.lemmas.Result.{IfOk-weaker}
+use Rattle.nc_mix.specs.Mixing.{lent, mixed}
+use Rattle.nc_mix.proofs.Parts.{all_made}
+use Rattle.nc_mix.proofs.sums.mix_rows.Goals as goal
+
+pub returns : goal.returns
+returns g c =
+    let sources : List (List ℕ) = lent c.args.sources.now in
+    let sums : List (List ℕ) = c.add_blocks.new.sums in
+    IfOk-weaker c.finish.result
+    (λ (chunks : List (List ℕ)). chunks ≡ take c.in_ok-sums.sums.len (sums ++ drop (length sums) c.in_ok-sums.sums.items))
+    (λ (chunks : List (List ℕ)). chunks ≡ map (λ row. mixed c.args.size row sources) c.args.rows.now)
+    (λ chunks is. is ∙ take_at sums _ _ (omega arith) ∙ c.in_ok-add_blocks.ensures ∙ all_made c.args.size c.args.rows.now sources)
+    c.finish.ensures

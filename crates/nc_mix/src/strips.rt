@@ -1,0 +1,161 @@
+ghost use Rattle.std.specs.Prelude.{◌≡◌, ◌*◌, ◌<◌, ◌≤◌, All, length, IfOk, OnOk};
+ghost use Rattle.std.specs.Borrow.{Bor};
+ghost use Rattle.nc_native.specs.Native.{AllLong};
+ghost use Rattle.nc_mix.specs.Mixing.{lent};
+ghost use Rattle.nc_mix.specs.Strips.{AllMix, Follow, HasRoom, IsMixed, Mixes};
+
+use crate::adding::mix_parts;
+use crate::gates::Gate;
+use nc_name::Memory;
+use std::alloc::Global;
+use std::thread;
+use std::thread::Threads;
+
+// At most so many bytes of each sum are made by one worker at once, so that the sources' bytes that they are made of stay in
+// its nearest caches from row to row.
+const PART: usize = 65536;
+
+// No fewer than there are workers, each of which has a strip.
+const MOST_THREADS: usize = 16;
+
+/// What one worker makes at once: a part of each row's mix, one after another.
+#[derive(Drop)]
+pub struct Strip {
+    /// The place of the part's first byte in its mix.
+    pub start: usize,
+    /// The length of each part.
+    pub count: usize,
+    pub bytes: Vec<u8>,
+}
+
+/// An empty strip for each worker.
+pub fn strips_for(alloc: Global, workers: u8) -> Result<Vec<Strip>, Memory>
+    ensures { IfOk result (λ v. length v.items ≡ workers) }
+{
+    let mut strips = Vec::new(alloc);
+    for _ in 0..workers {
+        let strip = Strip {
+            start: 0,
+            count: 0,
+            bytes: Vec::new(alloc),
+        };
+        if strips.push(strip).is_err() {
+            return Err(Memory);
+        }
+    }
+    Ok(strips)
+}
+
+/// Makes the next block of all mixes, from `at` on, cut among the strips, and tells where it ends.
+pub fn mix_block<R: Threads + Sync, G: Gate + Sync>(
+    rt: &R,
+    strips: &mut [Strip],
+    sources: &[&[u8]],
+    rows: &[[u8; 16]],
+    size: usize,
+    at: usize,
+    gate: &G,
+) -> Result<usize, Memory>
+    requires few { length (lent sources.now) ≤ 16 }
+    requires long { AllLong size (lent sources.now) }
+    requires left { at < size }
+    requires some_strip { 0 < length strips.old }
+    ensures room { IfOk result (λ end. All (HasRoom (length rows.now) size) strips.new) }
+    ensures mixed { IfOk result (λ end. All (IsMixed rows.now (lent sources.now)) strips.new) }
+    ensures follow { IfOk result (Follow at strips.new) }
+    ensures on { IfOk result (λ end. at < end) }
+    ensures within { IfOk result (λ end. end ≤ size) }
+{
+    let part = (size - at).div_ceil(strips.len()).min(PART);
+    let end = plan(strips, rows.len(), size, at, part)?;
+    mix_strips(rt, strips, sources, rows, size, gate);
+    Ok(end)
+}
+
+/// Gives each strip the next part, and room for it. Tells where the last part ends.
+fn plan(
+    strips: &mut [Strip],
+    rows: usize,
+    size: usize,
+    at: usize,
+    part: usize,
+) -> Result<usize, Memory>
+    requires within { at ≤ size }
+    ensures room { IfOk result (λ end. All (HasRoom rows size) strips.new) }
+    ensures follow { IfOk result (Follow at strips.new) }
+    ensures up { IfOk result (λ end. at ≤ end) }
+    ensures on { IfOk result (λ end. 0 < length strips.old → 0 < part → at < size → at < end) }
+    ensures within { IfOk result (λ end. end ≤ size) }
+{
+    let Some((strip, others)) = strips.split_first_mut() else {
+        return Ok(at);
+    };
+    let count = part.min(size - at);
+    give(strip, rows, at, count)?;
+    plan(others, rows, size, at + count, part)
+}
+
+/// Gives the strip a part, and room for it.
+fn give(strip: &mut Strip, rows: usize, start: usize, count: usize) -> Result<(), Memory>
+    ensures start { OnOk result (strip.new.start ≡ start) }
+    ensures count { OnOk result (strip.new.count ≡ count) }
+    ensures room { OnOk result (length strip.new.bytes.items ≡ rows * count) }
+{
+    let Some(room) = rows.checked_mul(count) else {
+        return Err(Memory);
+    };
+    strip.start = start;
+    strip.count = count;
+    if strip.bytes.resize(room, 0).is_err() {
+        return Err(Memory);
+    }
+    Ok(())
+}
+
+/// Makes the parts of all strips, at the same time.
+fn mix_strips<R: Threads + Sync, G: Gate + Sync>(
+    rt: &R,
+    strips: &mut [Strip],
+    sources: &[&[u8]],
+    rows: &[[u8; 16]],
+    size: usize,
+    gate: &G,
+)
+    requires few { length (lent sources.now) ≤ 16 }
+    requires long { AllLong size (lent sources.now) }
+    requires room { All (HasRoom (length rows.now) size) strips.old }
+    ensures { AllMix rows.now (lent sources.now) strips.old strips.new }
+{
+    thread::for_each_mut(
+        rt,
+        strips,
+        MOST_THREADS,
+        &|_, strip| mix_strip(strip, sources, rows, size, gate),
+    );
+}
+
+/// Makes the parts of a strip.
+fn mix_strip<G: Gate>(
+    strip: &mut Strip,
+    sources: &[&[u8]],
+    rows: &[[u8; 16]],
+    size: usize,
+    gate: &G,
+)
+    requires few { length (lent sources.now) ≤ 16 }
+    requires long { AllLong size (lent sources.now) }
+    requires room { HasRoom (length rows.now) size strip.old }
+    ensures { Mixes rows.now (lent sources.now) strip.old strip.new }
+{
+    if strip.count > 0 {
+        gate.enter();
+    }
+    mix_parts(
+        &mut strip.bytes,
+        sources,
+        rows,
+        size,
+        strip.start,
+        strip.count,
+    );
+}
