@@ -17,6 +17,7 @@ test:
 bench:
 	@bash bench/put.sh
 	@[ -z "$(BEFORE)" ] || bash bench/rounds.sh "$(BEFORE)" $(program)
+	@bash bench/kernels.sh
 
 session:
 	@bash bench/session.sh

@@ -8,8 +8,10 @@ program=$PWD/crates/nccloud/out/nccloud
 scratch=$(mktemp -d)
 trap 'rm -rf "$scratch"' EXIT
 head -c 67108864 /dev/urandom >"$scratch/file"
-python3 - "$program" "$scratch" "${1:-5}" <<'PYTHON'
-import os, shutil, subprocess, sys, time
+PYTHONPATH=bench python3 - "$program" "$scratch" "${1:-5}" <<'PYTHON'
+import os, shutil, subprocess, sys
+
+from turns import least_of_turns, par2_words, used_by
 
 program, scratch, runs = sys.argv[1], sys.argv[2], int(sys.argv[3])
 file, byte, others = scratch + "/file", scratch + "/byte", scratch + "/others"
@@ -80,43 +82,28 @@ for width in (4, 10):
     os.truncate(share, -(-size // (width - 2)))
     commands[f"cp and sync, {width} shares"] = (["sh", "-c", copy_to_each, share, *folders[width]], file)
 for width in (4, 10):
-    blocks = [f"-b{2 * (width - 2)}", "-c4", "-n1"]
-    commands[f"par2create, as {width} clouds"] = (["par2create", "-q", "-q", *blocks, "-B", scratch, f"{others}/par{width}", file], file)
+    commands[f"par2create, as {width} clouds"] = (par2_words(width, f"{others}/par{width}", file), file)
     shares = ["-k", str(width - 2), "-m", str(width)]
     commands[f"zfec, {width} shares"] = (["zfec", "-q", "-f", *shares, "-d", others, "-p", f"zfec{width}", file], file)
 absent = {words[0] for words, _ in commands.values() if not shutil.which(words[0])}
 commands = {name: (words, given) for name, (words, given) in commands.items() if words[0] not in absent}
-
-
-
-def bytes_read(child):
-    """How many bytes a program that has ended asked the system for, and got."""
-    with open(f"/proc/{child}/io") as counts:
-        return int(counts.readline().split()[1])
-
-
-seconds = {name: [] for name in commands}
 read = {}
 peaks = {name: 0 for name in commands}
-for _ in range(runs):
-    prepare()
-    for name, (words, given) in commands.items():
-        with open(given, "rb") as source:
-            start = time.perf_counter()
-            child = subprocess.Popen(words, stdin=source, stdout=subprocess.DEVNULL)
-            os.waitid(os.P_PID, child.pid, os.WEXITED | os.WNOWAIT)
-            seconds[name].append(time.perf_counter() - start)
-            read[name] = bytes_read(child.pid)
-            _, status, used = os.wait4(child.pid, 0)
-            child.returncode = os.waitstatus_to_exitcode(status)
-        if child.returncode != 0:
-            sys.exit(f"{name} ended with status {child.returncode}")
-        peaks[name] = max(peaks[name], used.ru_maxrss)
+
+
+def seconds_of(name):
+    """How many seconds a command takes. What else it used is kept."""
+    used = used_by(name, *commands[name])
+    read[name] = used.read
+    peaks[name] = max(peaks[name], used.peak)
+    return used.seconds
+
+
+least = least_of_turns(runs, lambda number: commands, prepare, seconds_of)
 print(f"{size} bytes, the least of {runs} runs in turn")
 for word in sorted(absent):
     print(f"{word} isn't installed")
-beside = min(seconds["sha256sum"])
 for name in commands:
-    least = min(seconds[name])
-    print(f"{name:44} {least * 1000:8.1f} ms   {least / beside:6.2f} x sha256sum   reads {read[name] / size:5.2f} x the file   peak {peaks[name] / 1024:5.0f} MiB")
+    ratio = least[name] / least["sha256sum"]
+    print(f"{name:44} {least[name] * 1000:8.1f} ms   {ratio:6.2f} x sha256sum   reads {read[name] / size:5.2f} x the file   peak {peaks[name] / 1024:5.0f} MiB")
 PYTHON

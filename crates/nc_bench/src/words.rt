@@ -5,6 +5,9 @@ ghost use Rattle.std.specs.Prelude.{◌≤◌};
 use crate::fault::Fault;
 use std::alloc::Global;
 
+/// As many bytes as a put takes.
+const MOST: usize = 1 << 26;
+
 /// What is timed.
 #[derive(Clone, Copy, Debug)]
 pub enum Job {
@@ -49,7 +52,8 @@ pub fn job_of(alloc: Global, line: &[String]) -> Result<Job, Fault> {
 }
 
 fn kernel_of(bytes: &str, passes: &str, turns: &str) -> Result<Kernel, Fault> {
-    let (Ok(bytes), Ok(passes)) = (bytes.parse(), passes.parse()) else {
+    let bytes = byte_count(bytes)?;
+    let Ok(passes) = passes.parse() else {
         return Err(Fault::Usage);
     };
     let turns = turns_of(turns)?;
@@ -64,12 +68,13 @@ fn mixing_of(words: &[&str]) -> Result<Mixing, Fault> {
     let [width, bytes, workers, turns] = *words else {
         return Err(Fault::Usage);
     };
-    let (Ok(width), Ok(bytes), Ok(workers)) = (width.parse(), bytes.parse(), workers.parse()) else {
+    let (Ok(width), Ok(workers)) = (width.parse(), workers.parse()) else {
         return Err(Fault::Usage);
     };
     if width < 4 || width > 10 || workers < 1 || workers > 16 {
         return Err(Fault::Usage);
     }
+    let bytes = byte_count(bytes)?;
     let turns = turns_of(turns)?;
     Ok(Mixing {
         width,
@@ -77,6 +82,13 @@ fn mixing_of(words: &[&str]) -> Result<Mixing, Fault> {
         workers,
         turns,
     })
+}
+
+fn byte_count(word: &str) -> Result<usize, Fault> {
+    match word.parse() {
+        Ok(bytes) if bytes <= MOST => Ok(bytes),
+        _ => Err(Fault::Usage),
+    }
 }
 
 /// There is a least time of one turn or more.
