@@ -16,12 +16,13 @@ use nc_frame::{Seen, open};
 use sha2::{Digest, Sha256};
 use std::thread::{Threads, join};
 
-/// As `judge`. The digests of the frame and of the payload, of which one takes as long as the other, are computed at the
+/// As `judge`. Two workers compute the digests of the frame and of the payload, of which one takes as long as the other, at the
 /// same time, where a thread can be begun.
-pub fn judge_at_once<'a, R: Threads>(
+pub fn judge_by<'a, R: Threads>(
     rt: &R,
     wanted: &Wanted,
     answer: &'a Answer,
+    workers: u8,
 ) -> Result<&'a [u8], How>
     requires slots { Slots wanted.now.key }
     requires seen { IsSeen answer.now ≡ true }
@@ -31,6 +32,9 @@ pub fn judge_at_once<'a, R: Threads>(
     ensures long { IfOk result (λ payload. length payload.now ≡ wanted.now.size) }
     ensures given { OnOk result (is_bytes answer.now ≡ true) }
 {
+    if workers < 2 {
+        return judge(wanted, answer);
+    }
     match answer {
         Answer::Bytes(blob) => judge_bytes(rt, wanted, blob.bytes()),
         _ => judge(wanted, answer),

@@ -11,7 +11,7 @@ mod short;
 mod showing;
 
 pub use asks::{push_ask, wanted};
-pub use at_once::judge_at_once;
+pub use at_once::judge_by;
 pub use fault::FetchFault;
 pub use finding::find;
 pub use judging::{Wanted, judge};

@@ -119,21 +119,29 @@ fn judge_seats<R: Threads + Sync>(rt: &R, alloc: Global, seats: &mut [Seat], wor
     requires some_worker { 1 ≤ workers }
     ensures { AllJudged seats.old seats.new }
 {
-    let workers = usize::from(workers);
-    let spare = seats.len() <= workers / 2;
+    let share = share_of(workers, seats.len());
     thread::for_each_mut(
         rt,
         seats,
-        workers,
-        &|_, seat| judge_seat(rt, alloc, spare, seat),
+        usize::from(workers),
+        &|_, seat| judge_seat(rt, alloc, seat, share),
     );
 }
 
-/// Judges the answer of a seat, and lets it go. Where a worker is spare for each seat, it computes one of both digests.
-fn judge_seat<R: Threads>(rt: &R, alloc: Global, spare: bool, seat: &mut Seat)
+/// How many workers there are for each seat, two at most.
+fn share_of(workers: u8, seats: usize) -> u8 {
+    if usize::from(workers / 2) < seats {
+        1
+    } else {
+        2
+    }
+}
+
+/// Judges the answer of a seat, and lets it go.
+fn judge_seat<R: Threads>(rt: &R, alloc: Global, seat: &mut Seat, workers: u8)
     requires { Slots seat.old.wanted.key }
     ensures { IsJudgedSeat seat.old seat.new }
 {
-    seat.found = judge_answer(rt, alloc, &seat.wanted, seat.row, &seat.answer, spare);
+    seat.found = judge_answer(rt, alloc, &seat.wanted, seat.row, &seat.answer, workers);
     seat.answer = Answer::Waiting;
 }

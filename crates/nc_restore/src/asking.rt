@@ -13,20 +13,23 @@ ghost use Rattle.nc_restore.specs.Asking.{AreJudgedTo, AskFails, GotRow, IsJudge
 
 use crate::fault::{RestoreFault, fault_of};
 use nc_cloud::{Answer, Ask, Fleet, RoundFault, ask_round};
-use nc_download::{Wanted, judge, wanted};
+use nc_download::{Wanted, judge_by, wanted};
 use nc_fetch::{asks_on, is_named};
 use nc_meta::Live;
 use nc_name::Name;
 use std::alloc::Global;
+use std::thread::Threads;
 
 /// Asks the clouds that `on` names for their chunks of this row, in one round, and names those whose chunk isn't good.
-pub(crate) fn judge_row<F: Fleet>(
+pub(crate) fn judge_row<R: Threads + Sync, F: Fleet>(
+    rt: &R,
     alloc: Global,
     fleet: &mut F,
     name: &Name,
     live: &Live,
     row: u8,
     on: &[bool; 10],
+    workers: u8,
 ) -> Result<[bool; 10], RestoreFault>
     requires ready { F.ready }
     requires wide { 4 ≤ F.clouds fleet.old }
@@ -44,7 +47,7 @@ pub(crate) fn judge_row<F: Fleet>(
         Err(_) => return Err(RestoreFault::Memory),
     };
     match get_row(fleet, asks) {
-        Ok(asks) => Ok(bad_ones(width, name, live, row, on, asks)),
+        Ok(asks) => Ok(bad_ones(rt, width, name, live, row, on, asks, workers)),
         Err(fault) => Err(fault_of(fault)),
     }
 }
@@ -67,13 +70,15 @@ fn get_row<F: Fleet>(fleet: &mut F, mut asks: Vec<Ask>) -> Result<Vec<Ask>, Roun
 }
 
 /// The clouds that `on` names whose chunk of this row isn't good, by their answers.
-fn bad_ones(
+fn bad_ones<R: Threads>(
+    rt: &R,
     width: u8,
     name: &Name,
     live: &Live,
     row: u8,
     on: &[bool; 10],
     mut asks: Vec<Ask>,
+    workers: u8,
 ) -> [bool; 10]
     requires wide { 4 ≤ width }
     requires narrow { width ≤ 10 }
@@ -86,13 +91,16 @@ fn bad_ones(
 {
     let mut bad = [false; 10];
     for cloud in 0..width {
-        bad[usize::from(cloud)] = next_is_bad(width, name, live, row, cloud, on, &mut asks);
+        bad[usize::from(cloud)] = next_is_bad(
+            rt, width, name, live, row, cloud, on, &mut asks, workers,
+        );
     }
     bad
 }
 
 /// Whether the next entry shows a chunk that isn't good, where the cloud has an entry.
-fn next_is_bad(
+fn next_is_bad<R: Threads>(
+    rt: &R,
     width: u8,
     name: &Name,
     live: &Live,
@@ -100,6 +108,7 @@ fn next_is_bad(
     cloud: u8,
     on: &[bool; 10],
     asks: &mut Vec<Ask>,
+    workers: u8,
 ) -> bool
     requires wide { 4 ≤ width }
     requires narrow { width ≤ 10 }
@@ -120,19 +129,17 @@ fn next_is_bad(
 {
     if is_named(on, cloud) {
         let ask = asks.remove(0);
-        return is_bad(&wanted(width, name, live, row, cloud), &ask.answer);
+        let wanted = wanted(width, name, live, row, cloud);
+        return is_bad(rt, &wanted, &ask.answer, workers);
     }
     false
 }
 
-/// Whether an answer shows a chunk that isn't good.
-fn is_bad(wanted: &Wanted, answer: &Answer) -> bool
+/// Whether an answer shows a chunk that isn't good. Two workers compute both digests at the same time.
+fn is_bad<R: Threads>(rt: &R, wanted: &Wanted, answer: &Answer, workers: u8) -> bool
     requires slots { Slots wanted.now.key }
     requires seen { IsSeen answer.now ≡ true }
     ensures { IsJudgedFrom wanted.now answer.now result }
 {
-    match judge(wanted, answer) {
-        Ok(_) => false,
-        Err(_) => true,
-    }
+    judge_by(rt, wanted, answer, workers).is_err()
 }

@@ -2,19 +2,16 @@
 ghost use Rattle.std.specs.Prelude.{◌≡◌, ◌≤◌, ◌*◌, ◌++◌, ◌∷◌, [], IfOk, OnOk, None, Some, if◌then◌else◌, length, option_to_list};
 ghost use Rattle.nc_cloud.specs.Rounds.{some_row};
 ghost use Rattle.nc_meta.specs.Metas.{IsLive};
-ghost use Rattle.nc_mix.specs.Mixing.{AreChunksOf};
 ghost use Rattle.nc_settle.specs.MetaWrites.{named};
 ghost use Rattle.nc_write.specs.InTurn.{WroteInTurn};
 ghost use Rattle.nc_restore.specs.Restoring.{AreRestoreWrites, CanBeWritten, by_row, chosen_of, restore_rounds};
 
 use nc_cloud::{Fleet, RoundFault, write_row};
-use nc_code::Code;
 use nc_fetch::is_named;
 use nc_meta::Live;
-use nc_mix::{Chunks, Open, encode};
+use nc_mix::Chunks;
 use nc_name::{Blob, Memory, Name};
-use nc_native::cut;
-use nc_write::{Placed, RowWrites, Rows, seal_rows};
+use nc_write::{Placed, RowWrites, Rows, combined, seal_rows};
 use std::alloc::Global;
 use std::thread::Threads;
 
@@ -42,22 +39,6 @@ pub(crate) fn make_anew<R: Threads + Sync>(
     let chosen = chosen_rows(alloc, width, chunks, zeros, ones)?;
     let writes = seal_rows(rt, alloc, width, name, live, chosen, workers)?;
     Ok(writes)
-}
-
-/// Cuts the file and combines it by this code.
-fn combined<R: Threads + Sync>(
-    rt: &R,
-    alloc: Global,
-    code: &Code,
-    workers: u8,
-    file: &[u8],
-) -> Result<Chunks, Memory>
-    requires some_workers { 1 ≤ workers }
-    requires few_workers { workers ≤ 16 }
-    ensures { IfOk result (AreChunksOf code.now file.now) }
-{
-    let natives = cut(alloc, file, code.width())?;
-    encode(rt, alloc, &natives, code, workers, &Open)
 }
 
 /// The chunks that the tables name, by row. None is copied, and the others are let go.

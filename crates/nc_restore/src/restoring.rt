@@ -166,7 +166,7 @@ fn restore_in_turn<R: Threads + Sync, F: Fleet>(
     if let Verdict::Fails { a, b, .. } = check(&before.code) {
         return Err(RestoreFault::Unsound { a, b });
     }
-    let bad = match judge_both(alloc, fleet, name, before, on) {
+    let bad = match judge_both(rt, alloc, fleet, name, before, on, workers) {
         Ok(bad) => bad,
         Err(fault) => return Err(fault),
     };
@@ -183,12 +183,14 @@ fn restore_in_turn<R: Threads + Sync, F: Fleet>(
 }
 
 /// Both rows of the clouds that `on` names are judged, each in a round.
-fn judge_both<F: Fleet>(
+fn judge_both<R: Threads + Sync, F: Fleet>(
+    rt: &R,
     alloc: Global,
     fleet: &mut F,
     name: &Name,
     live: &Live,
     on: &[bool; 10],
+    workers: u8,
 ) -> Result<BadRows, RestoreFault>
     requires ready { F.ready }
     requires wide { 4 ≤ F.clouds fleet.old }
@@ -199,11 +201,11 @@ fn judge_both<F: Fleet>(
         fleet.old fleet.new (by_row bad.zeros bad.ones)) }
     ensures fails { IfErr result (AskFails F.Fleet (named on.now) 2 fleet.old fleet.new) }
 {
-    let zeros = match judge_row(alloc, fleet, name, live, 0, on) {
+    let zeros = match judge_row(rt, alloc, fleet, name, live, 0, on, workers) {
         Ok(zeros) => zeros,
         Err(fault) => return Err(fault),
     };
-    match judge_row(alloc, fleet, name, live, 1, on) {
+    match judge_row(rt, alloc, fleet, name, live, 1, on, workers) {
         Ok(ones) => Ok(BadRows { zeros, ones }),
         Err(fault) => Err(fault),
     }

@@ -49,7 +49,7 @@ pub fn prepare<R: Threads + Sync>(
 }
 
 /// Cuts the file and combines it by this code.
-fn combined<R: Threads + Sync>(
+pub fn combined<R: Threads + Sync>(
     rt: &R,
     alloc: Global,
     code: &Code,

@@ -6,4 +6,4 @@ use Rattle.nc_restore.specs.Asking.{AreJudgedTo}
 use Rattle.nc_restore.proofs.asking.bad_ones.Given as goal
 
 abbrev pub invariant-loop-cloud : goal.invariant-loop-cloud
-invariant-loop-cloud l = AreJudgedTo l.width l.name l.live l.row (named l.on) l.cloud l.fn.asks.items l.bad × AreLeft l.width l.name l.live l.row (named l.on) l.cloud l.fn.asks.items l.asks.items × All (λ a. IsSeen a.answer ≡ true) l.asks.items
+invariant-loop-cloud g l = AreJudgedTo l.width l.name l.live l.row (named l.on) l.cloud l.fn.asks.items l.bad × AreLeft l.width l.name l.live l.row (named l.on) l.cloud l.fn.asks.items l.asks.items × All (λ a. IsSeen a.answer ≡ true) l.asks.items
