@@ -6,7 +6,7 @@ use thiserror::Error;
 /// Why there is no time to tell.
 #[derive(Debug, Drop, Error)]
 pub enum Fault {
-    #[error("usage: nc_bench kernel BYTES PASSES TURNS | nc_bench encode|decode WIDTH BYTES WORKERS TURNS")]
+    #[error("usage: nc_bench kernel BYTES PASSES TURNS | encode|decode WIDTH BYTES WORKERS TURNS")]
     Usage,
     #[error("no code was found")]
     Code,

@@ -13,7 +13,7 @@ use std::time::{Duration, Instant};
 
 const FACTOR: u8 = 0x8E;
 
-/// The least time of a turn, once a first pass has given what the field's own product gives byte by byte.
+/// The least time of a turn, once a first pass has given the field's own products byte by byte.
 pub fn time_kernel<R: Clock>(rt: &R, alloc: Global, job: &Kernel) -> Result<Duration, Fault> {
     let src = bytes_of(alloc, job.bytes)?;
     let mut dst = vec![in alloc; 0; job.bytes]?;

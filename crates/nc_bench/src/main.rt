@@ -1,5 +1,6 @@
-//! A program that times what the vaults compute: `nc_bench WORDS` does the same work a number of times and prints the least
-//! time of a turn in microseconds. The answers are compared with what they must be.
+//! A program that times what the vaults compute: `nc_bench WORDS` does the same work a number of
+//! times and prints the least time of a turn in microseconds. The answers are compared with what
+//! they must be.
 #![tactic(auto)]
 
 mod fault;
