@@ -1,5 +1,7 @@
 pub mod Mixes
 pub mod Parts
+pub mod Appended
+pub mod SideBySide
 pub mod Missing
 pub mod Solving
 pub mod Squares

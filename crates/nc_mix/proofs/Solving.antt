@@ -1,6 +1,6 @@
 -- How the natives are solved for, part by part.
-use Rattle.std.proofs.Common.{◌≡◌, ℕ, ◌+◌, ◌-◌, ◌*◌, ◌<◌, ◌≤◌, suc, List, [], ◌∷◌, ◌++◌, length, get_or, take, drop, replicate, refl, sym, ◌∙◌, ap, subst, arith}
-use Rattle.std.proofs.lemmas.List.{map-append, append_assoc, take_more, take-replicate, drop-replicate, length-append}
+use Rattle.std.proofs.Common.{◌≡◌, ℕ, ◌+◌, ◌*◌, ◌<◌, List, [], ◌∷◌, ◌++◌, length, get_or, take, refl, sym, ◌∙◌, ap, arith}
+use Rattle.std.proofs.lemmas.List.{map-append, append_assoc, take_more, length-append}
 use Rattle.std.specs.Borrow.{Bor}
 use Rattle.nc_mix.specs.declared.pieces.Piece.{Piece}
 use Rattle.nc_mix.specs.Mixing.{mixed, lent}

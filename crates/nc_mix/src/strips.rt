@@ -11,8 +11,8 @@ use std::alloc::Global;
 use std::thread;
 use std::thread::Threads;
 
-// At most so many bytes of each sum are made by one worker at once, so that the sources' bytes that they are made of stay in
-// its nearest caches from row to row.
+// At most so many bytes of each mix are made by one worker at once, so that the bytes of the
+// sources stay in its nearest caches from row to row.
 const PART: usize = 65536;
 
 // No fewer than there are workers, each of which has a strip.

@@ -1,7 +1,7 @@
-ghost use Rattle.std.specs.Prelude.{◌≡◌, ◌+◌, ◌*◌, ◌<◌, ◌≤◌, All, [], ◌++◌, length, map, replicate, IfOk, OnOk};
+ghost use Rattle.std.specs.Prelude.{◌≡◌, ◌*◌, ◌<◌, ◌≤◌, All, [], length, map, replicate, IfOk, OnOk};
 ghost use Rattle.std.specs.Borrow.{Bor};
 ghost use Rattle.nc_native.specs.Native.{AllLong};
-ghost use Rattle.nc_mix.specs.Mixing.{lent, mixed, mixed_part, mixed_parts};
+ghost use Rattle.nc_mix.specs.Mixing.{lent, mixed, mixed_parts};
 ghost use Rattle.nc_mix.specs.Strips.{HasRoom, all_appended, appended};
 
 use crate::Chunks;
@@ -25,7 +25,8 @@ pub fn mix_rows<R: Threads + Sync, G: Gate + Sync>(
     requires few { length (lent sources.now) ≤ 16 }
     requires long { AllLong size (lent sources.now) }
     requires some_worker { 1 ≤ workers }
-    ensures { IfOk result (λ chunks. chunks ≡ map (λ row. mixed size row (lent sources.now)) rows.now) }
+    ensures { IfOk result
+        (λ chunks. chunks ≡ map (λ row. mixed size row (lent sources.now)) rows.now) }
 {
     let mut sums = empty_sums(alloc, rows.len(), size)?;
     let mut strips = strips_for(alloc, workers)?;

@@ -1,4 +1,3 @@
-use Rattle.std.proofs.Common.{length}
 use Rattle.nc_mix.proofs.placing.+place.Given as goal
 
 abbrev pub decreases-place : goal.decreases-place

@@ -1,17 +1,22 @@
-use Rattle.std.proofs.Common.{◌≡◌, ◌≤◌, ◌*◌, ◌∙◌, length, sym, subst, arith}
+use Rattle.std.proofs.Common.{◌≡◌, ◌≤◌, sym, subst, arith}
 use Rattle.nc_mix.specs.Mixing.{lent}
 use Rattle.nc_mix.specs.Strips.{AreBegun}
-use Rattle.nc_mix.proofs.Parts.{carried_over, none_begun, all_begun}
+use Rattle.nc_mix.proofs.SideBySide.{carried_over, none_begun, all_begun}
 use Rattle.nc_mix.proofs.placing.place_blocks.Goals as goal
 
 pub loop-at-init : goal.loop-at-init
-loop-at-init g c = (none_begun c.args.size (lent c.args.sources.now) c.args.rows.now c.args.sums.now c.requires.room, omega arith)
+loop-at-init g c = (
+  none_begun c.args.size (lent c.args.sources.now) c.args.rows.now c.args.sums.now c.requires.room,
+  omega arith,
+)
 
 pub loop-at-preserved : goal.loop-at-preserved
 loop-at-preserved g c = (
-  subst (AreBegun c.args.size c.in_ok-at.at (lent c.args.sources.now) c.args.rows.now) (sym c.place_all.ensures)
-      (carried_over c.args.size c.args.rows.now (lent c.args.sources.now) c.loop-at.at c.in_ok-at.at c.mix_block.new.strips c.loop-at.sums
-      c.in_ok-at.ensures.follow c.in_ok-at.ensures.room c.in_ok-at.ensures.mixed c.loop-at.invariant.0),
+  subst (AreBegun c.args.size c.in_ok-at.at (lent c.args.sources.now) c.args.rows.now)
+      (sym c.place_all.ensures)
+      (carried_over c.args.size (lent c.args.sources.now) c.args.rows.now c.loop-at.at
+      c.in_ok-at.at c.mix_block.new.strips c.loop-at.sums c.in_ok-at.ensures.follow
+      c.in_ok-at.ensures.room c.in_ok-at.ensures.mixed c.loop-at.invariant.0),
   c.in_ok-at.ensures.within,
 )
 
@@ -21,4 +26,5 @@ returns g c =
     let past : c.args.size ≤ c.loop-at.at = c.loop-at-test.false in
     let whole : c.loop-at.at ≡ c.args.size = omega arith in
     all_begun c.args.size (lent c.args.sources.now) c.args.rows.now c.loop-at.sums
-    (subst (λ k. AreBegun c.args.size k (lent c.args.sources.now) c.args.rows.now c.loop-at.sums) whole c.loop-at.invariant.0)
+    (subst (λ k. AreBegun c.args.size k (lent c.args.sources.now) c.args.rows.now c.loop-at.sums)
+    whole c.loop-at.invariant.0)

@@ -1,4 +1,4 @@
-use Rattle.std.proofs.Common.{◌≡◌, ◌≤◌, ◌-◌}
+use Rattle.std.proofs.Common.{◌≤◌, ◌-◌}
 use Rattle.nc_mix.specs.Mixing.{lent}
 use Rattle.nc_mix.specs.Strips.{AreBegun}
 use Rattle.nc_mix.proofs.placing.place_blocks.Given as goal
@@ -7,4 +7,5 @@ abbrev pub decreases-loop-at : goal.decreases-loop-at
 decreases-loop-at g l = l.fn.size - l.at
 
 abbrev pub invariant-loop-at : goal.invariant-loop-at
-invariant-loop-at g l = AreBegun l.fn.size l.at (lent l.fn.sources) l.fn.rows l.sums × (l.at ≤ l.fn.size)
+invariant-loop-at g l =
+    AreBegun l.fn.size l.at (lent l.fn.sources) l.fn.rows l.sums × (l.at ≤ l.fn.size)

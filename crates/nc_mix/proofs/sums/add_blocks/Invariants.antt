@@ -6,4 +6,5 @@ abbrev pub decreases-loop-at : goal.decreases-loop-at
 decreases-loop-at g l = l.fn.size - l.at
 
 abbrev pub invariant-loop-at : goal.invariant-loop-at
-invariant-loop-at g l = (l.sums ≡ mixed_parts 0 l.at l.fn.rows (lent l.fn.sources)) × (l.at ≤ l.fn.size)
+invariant-loop-at g l =
+    (l.sums ≡ mixed_parts 0 l.at l.fn.rows (lent l.fn.sources)) × (l.at ≤ l.fn.size)

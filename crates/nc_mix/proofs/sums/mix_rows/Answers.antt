@@ -2,15 +2,20 @@ use Rattle.std.proofs.Common.{◌≡◌, ◌++◌, ◌∙◌, ℕ, List, drop, l
 use Rattle.std.proofs.lemmas.List.{take_at}
 use Rattle.std.proofs.lemmas.Result.{IfOk-weaker}
 use Rattle.nc_mix.specs.Mixing.{lent, mixed}
-use Rattle.nc_mix.proofs.Parts.{all_made}
+use Rattle.nc_mix.proofs.Appended.{all_made}
 use Rattle.nc_mix.proofs.sums.mix_rows.Goals as goal
 
 pub returns : goal.returns
 returns g c =
-    let sources : List (List ℕ) = lent c.args.sources.now in
     let sums : List (List ℕ) = c.add_blocks.new.sums in
+    let rest : List (List ℕ) = drop (length sums) c.in_ok-sums.sums.items in
     IfOk-weaker c.finish.result
-    (λ (chunks : List (List ℕ)). chunks ≡ take c.in_ok-sums.sums.len (sums ++ drop (length sums) c.in_ok-sums.sums.items))
-    (λ (chunks : List (List ℕ)). chunks ≡ map (λ row. mixed c.args.size row sources) c.args.rows.now)
-    (λ chunks is. is ∙ take_at sums _ _ (omega arith) ∙ c.in_ok-add_blocks.ensures ∙ all_made c.args.size c.args.rows.now sources)
+    (λ (chunks : List (List ℕ)). chunks ≡ take c.in_ok-sums.sums.len (sums ++ rest))
+    (λ (chunks : List (List ℕ)).
+    chunks ≡ map (λ row. mixed c.args.size row (lent c.args.sources.now)) c.args.rows.now)
+    (λ chunks is.
+    is
+    ∙ take_at sums rest c.in_ok-sums.sums.len (omega arith)
+    ∙ c.in_ok-add_blocks.ensures
+    ∙ all_made c.args.size c.args.rows.now (lent c.args.sources.now))
     c.finish.ensures
