@@ -18,6 +18,18 @@ fn long_files_come_back(rt: HostRuntime) -> Result<(), Fail> {
         objects 12
         size 3 c-61-0-1 16777272
 
+        # a repair reads three chunks of 750,000 bytes, and the file comes back without two other clouds
+        clouds 4
+        put p < mixed:3000000 -> 0 Ok = generation:1
+        size 2 c-70-0-0 750056
+        lose 2
+        repair 2 -> 0 Ok = "repaired·1¶"
+        gets of chunks 1 1 0 1
+        size 2 c-70-1-0 750056
+        lose 0
+        lose 3
+        get p -> 0 Ok = mixed:3000000
+
         # a long file comes back from 4 clouds and without two
         clouds 4
         put a < mixed:100003 -> 0 Ok = generation:1

@@ -12,11 +12,12 @@ static LIST: &str = "scratch_file/0,scratch_file/1,scratch_file/2,scratch_file/3
 /// A file is repaired on an emptied folder, read without two others, restored on these, and removed.
 static REPAIRED: &str = r#"
     put photos.db < mixed:3000000 -> 0 Ok = generation:1
+    long scratch_file/2/c-70686f746f732e6462-0-1 750072
     raze scratch_file/2
     make scratch_file/2
     repair 2 -> 0 Ok = "repaired·1¶"
-    has scratch_file/2/c-70686f746f732e6462-1-0
-    has scratch_file/2/c-70686f746f732e6462-1-1
+    long scratch_file/2/c-70686f746f732e6462-1-0 750072
+    long scratch_file/2/c-70686f746f732e6462-1-1 750072
     lacks scratch_file/1/c-70686f746f732e6462-1-0
     raze scratch_file/0
     make scratch_file/0
@@ -108,7 +109,7 @@ fn make_folders(rt: &HostRuntime) -> Result<(), Fail> {
 }
 
 /// What is done at this path: a file is written or removed, or a folder made or removed with all that stands in it. Or what
-/// must stand there: something or nothing.
+/// must stand there: something, nothing, or a file of so many bytes.
 fn perform(rt: &HostRuntime, act: &str, path: &str) -> Result<(), Fail> {
     match act {
         "write" => fs::write(rt, path, "NCF1")?,
@@ -117,6 +118,7 @@ fn perform(rt: &HostRuntime, act: &str, path: &str) -> Result<(), Fail> {
         "raze" => fs::remove_dir_all(rt, path)?,
         "has" => check_stands(rt, path, true)?,
         "lacks" => check_stands(rt, path, false)?,
+        "long" => check_long(rt, path)?,
         _ => return Err(Fail::new("no such act")),
     }
     Ok(())
@@ -127,6 +129,17 @@ fn check_stands(rt: &HostRuntime, path: &str, wanted: bool) -> Result<(), Fail> 
         Ok(())
     } else {
         Err(Fail::new(format_args!("what stands at {path}")))
+    }
+}
+
+/// A path, and after it how many bytes the file there must have.
+fn check_long(rt: &HostRuntime, words: &str) -> Result<(), Fail> {
+    let (path, wanted) = words.split_once(' ').ok_or("no length")?;
+    let wanted: u64 = wanted.parse()?;
+    if fs::metadata(rt, path)?.len() == wanted {
+        Ok(())
+    } else {
+        Err(Fail::new(format_args!("how long {path} is")))
     }
 }
 
