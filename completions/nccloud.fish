@@ -40,7 +40,7 @@ complete -c nccloud -f
 complete -c nccloud -n '__nccloud_after 0' -a '(__nccloud_folders)'
 complete -c nccloud -n 'not __nccloud_after 0' -l seed -x -d 'what codes are drawn with: 64 hexadecimal digits'
 complete -c nccloud -n 'not __nccloud_after 0' -l budget -x -a '64 256 1024 4096' -d 'how many candidates for a code are looked at'
-complete -c nccloud -n 'not __nccloud_after 0' -l workers -x -a '1 2 4 8 16' -d 'in how many pieces a file is mixed at once'
+complete -c nccloud -n 'not __nccloud_after 0' -l workers -x -a '1 2 4 8 16' -d 'how many pieces and digests are worked on at once'
 complete -c nccloud -n '__nccloud_after 1' -a put -d 'store standard input under a name'
 complete -c nccloud -n '__nccloud_after 1' -a get -d 'write a file to standard output'
 complete -c nccloud -n '__nccloud_after 1' -a stat -d 'tell the generation and length of a file'

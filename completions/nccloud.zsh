@@ -46,7 +46,7 @@ _nccloud() {
     _arguments \
         '--seed=[what codes are drawn with]:64 hexadecimal digits: ' \
         '--budget=[how many candidates for a code are looked at]:number from 1 to 4096:(64 256 1024 4096)' \
-        '--workers=[in how many pieces a file is mixed at once]:number from 1 to 16:(1 2 4 8 16)' \
+        '--workers=[how many pieces and digests are worked on at once]:number from 1 to 16:(1 2 4 8 16)' \
         '1:clouds:_sequence -s , -n 10 _path_files -/' \
         '2:command:_nccloud_commands' \
         '3::argument:_nccloud_first' \
