@@ -141,7 +141,7 @@ fn repairs_that_are_refused(rt: HostRuntime) -> Result<(), Fail> {
 }
 
 #[test]
-fn each_cloud_is_repaired_in_turn(rt: HostRuntime) -> Result<(), Fail> {
+fn each_of_four_clouds_is_repaired_in_turn(rt: HostRuntime) -> Result<(), Fail> {
     play(
         &rt,
         r#"
@@ -181,7 +181,15 @@ fn each_cloud_is_repaired_in_turn(rt: HostRuntime) -> Result<(), Fail> {
         objects 12
         stat a -> 0 Ok = "generation·11·length·103·witnesses·yes¶"
         without two: get a -> 0 Ok = mixed:103
+        "#,
+    )
+}
 
+#[test]
+fn each_of_seven_clouds_is_repaired_in_turn(rt: HostRuntime) -> Result<(), Fail> {
+    play(
+        &rt,
+        r#"
         # ten repairs of 7 clouds
         clouds 7
         put a < mixed:100 -> 0 Ok = generation:1
@@ -217,7 +225,15 @@ fn each_cloud_is_repaired_in_turn(rt: HostRuntime) -> Result<(), Fail> {
         get a -> 0 Ok = mixed:100
         objects 21
         without two: get a -> 0 Ok = mixed:100
+        "#,
+    )
+}
 
+#[test]
+fn each_of_ten_clouds_is_repaired_in_turn(rt: HostRuntime) -> Result<(), Fail> {
+    play(
+        &rt,
+        r#"
         # ten repairs of 10 clouds, each once
         clouds 10
         put a < mixed:1000 -> 0 Ok = generation:1

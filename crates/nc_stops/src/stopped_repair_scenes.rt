@@ -92,7 +92,7 @@ fn a_failing_cloud_stops_a_repair(rt: HostRuntime) -> Result<(), Fail> {
 }
 
 #[test]
-fn a_repair_may_stop_in_any_round(rt: HostRuntime) -> Result<(), Fail> {
+fn a_repair_may_stop_before_its_new_chunks(rt: HostRuntime) -> Result<(), Fail> {
     play(
         &rt,
         r#"
@@ -125,6 +125,19 @@ fn a_repair_may_stop_in_any_round(rt: HostRuntime) -> Result<(), Fail> {
         get a -> 0 Ok = "abcdefgh"
         repair 1 -> 0 Ok = "repaired·1¶"
         without two: get a -> 0 Ok = "abcdefgh"
+        objects 12
+        "#,
+    )
+}
+
+#[test]
+fn a_repair_may_stop_in_any_of_its_writes(rt: HostRuntime) -> Result<(), Fail> {
+    play(
+        &rt,
+        r#"
+        # the file is whole after each stop, and the next repair succeeds, after which any two clouds may be lost
+        clouds 4
+        put a < "abcdefgh" -> 0 Ok = generation:1
 
         # in the new chunks
         lose 1
@@ -149,6 +162,19 @@ fn a_repair_may_stop_in_any_round(rt: HostRuntime) -> Result<(), Fail> {
         get a -> 0 Ok = "abcdefgh"
         repair 1 -> 0 Ok = "repaired·1¶"
         without two: get a -> 0 Ok = "abcdefgh"
+        objects 12
+        "#,
+    )
+}
+
+#[test]
+fn a_repair_may_stop_in_any_of_its_deletes(rt: HostRuntime) -> Result<(), Fail> {
+    play(
+        &rt,
+        r#"
+        # the file is whole after each stop, and the next repair succeeds, after which any two clouds may be lost
+        clouds 4
+        put a < "abcdefgh" -> 0 Ok = generation:1
 
         # in the deletes of the metadata before, and of the chunks that the lost cloud had
         lose 1
