@@ -56,6 +56,21 @@ fn a_blob_keeps_its_bytes(rt: HostRuntime) -> Result<(), Memory> {
     Ok(())
 }
 
+#[test]
+fn bytes_are_put_around_a_blob(rt: HostRuntime) -> Result<(), Memory> {
+    let mut blob = Blob::with_room(rt.alloc(), 2, 4)?;
+    blob.append(b"abc")?;
+    let blob = blob.with_front(rt.alloc(), b"xy")?;
+    assert_eq!(rt; blob.bytes(), b"xyabc".as_slice());
+    let blob = blob.with_front(rt.alloc(), b"w")?;
+    assert_eq!(rt; blob.bytes(), b"wxyabc".as_slice());
+    let mut part = blob.into_part(2, 3);
+    assert_eq!(rt; part.bytes(), b"yab".as_slice());
+    part.append(b"!")?;
+    assert_eq!(rt; part.bytes(), b"yab!".as_slice());
+    Ok(())
+}
+
 fn crosses<T: Send + Sync>() {}
 
 #[test]
