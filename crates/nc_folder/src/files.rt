@@ -94,9 +94,10 @@ fn file_at(rt: &HostRuntime, folder: &str, path: &str) -> Result<Option<Metadata
     }
 }
 
-/// The bytes of a file of this length. A read that gives another number of them is cut short, or the file changed.
+/// The bytes of a file of this length. A read that gives another number of them is cut short, or the file changed. There is room for
+/// one byte more, so that the read that finds the end takes no memory.
 fn read_whole(rt: &HostRuntime, alloc: Global, path: &str, len: usize) -> Result<Blob, Trouble> {
-    let mut bytes = Vec::with_capacity(alloc, len)?;
+    let mut bytes = Vec::with_capacity(alloc, len.saturating_add(1))?;
     let mut file = fs::open(rt, path)?.take((len as u64).saturating_add(1));
     file.read_to_end(&mut bytes)?;
     if bytes.len() == len {

@@ -22,4 +22,4 @@ mod sealing;
 mod tests;
 
 pub use opening::{Seen, open};
-pub use sealing::seal;
+pub use sealing::{seal, seal_around};

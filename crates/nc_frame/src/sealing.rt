@@ -1,9 +1,10 @@
-ghost use Rattle.std.specs.Prelude.{◌≡◌, ◌+◌, ◌<◌, ◌^◌, IfOk, length};
+ghost use Rattle.std.specs.Prelude.{◌≡◌, ◌+◌, ◌<◌, ◌++◌, ◌^◌, ℕ, List, IfOk, length};
+ghost use Rattle.sha2.specs.Sha256.{sha256};
 ghost use Rattle.nc_name.specs.Keys.{Slots, key_text};
-ghost use Rattle.nc_frame.specs.Frames.{Sealed, frame};
+ghost use Rattle.nc_frame.specs.Frames.{Sealed, frame_front};
 
-use nc_bytes::{u16_bytes, u64_bytes};
-use nc_name::{Blob, Key, Memory};
+use nc_bytes::{told_bytes, u16_bytes, u64_bytes};
+use nc_name::{BEHIND, Blob, FRONT, Key, Memory};
 use sha2::{Digest, Sha256};
 use std::alloc::Global;
 
@@ -12,30 +13,52 @@ pub fn seal(alloc: Global, cloud: u8, width: u8, key: &Key, payload: &[u8]) -> R
     requires { Slots key.now }
     ensures { IfOk result (λ blob. Sealed blob cloud width (key_text key.now) payload.now) }
 {
-    let text = key.text();
-    let bytes = framed(alloc, cloud, width, text.as_str().as_bytes(), payload)?;
-    Ok(Blob::from_vec(bytes))
+    let mut bytes = Blob::with_room(alloc, FRONT, payload.len().saturating_add(BEHIND))?;
+    bytes.append(payload)?;
+    seal_around(alloc, cloud, width, key, bytes)
 }
 
-/// The frame of a payload. The vector grows once.
-#[tactic(auto, unfolding(crate::specs::Frames::frame, crate::specs::Frames::frame_front))]
-fn framed(
+/// The same of a payload that has room before and behind it: then it isn't copied.
+pub fn seal_around(
     alloc: Global,
     cloud: u8,
     width: u8,
-    key: &[u8],
-    payload: &[u8],
-) -> Result<Vec<u8>, Memory>
-    requires { length key.now < 2 ^ 16 }
-    ensures { IfOk result (λ bytes. bytes.items ≡ frame cloud width key.now payload.now) }
+    key: &Key,
+    payload: Blob,
+) -> Result<Blob, Memory>
+    requires { Slots key.now }
+    ensures { IfOk result (λ blob. Sealed blob cloud width (key_text key.now) payload) }
 {
-    let mut bytes = Vec::with_capacity(alloc, 48 + key.len() + payload.len())?;
+    told_bytes(payload.bytes());
+    let text = key.text();
+    let len = payload.bytes().len();
+    let front = front_of(alloc, cloud, width, text.as_str().as_bytes(), len)?;
+    let bytes = payload.with_front(alloc, &front)?;
+    let frame = digested(bytes)?;
+    Ok(frame)
+}
+
+/// The bytes with their digest behind them.
+fn digested(mut bytes: Blob) -> Result<Blob, Memory>
+    ensures { IfOk result (λ blob. blob ≡ bytes ++ sha256 bytes) }
+{
+    let digest = Sha256::digest(bytes.bytes());
+    bytes.append(&digest)?;
+    Ok(bytes)
+}
+
+/// What stands before a payload of so many bytes.
+#[tactic(auto, unfolding(crate::specs::Frames::frame_front))]
+fn front_of(alloc: Global, cloud: u8, width: u8, key: &[u8], len: usize) -> Result<Vec<u8>, Memory>
+    requires { length key.now < 2 ^ 16 }
+    ensures { IfOk result
+        (λ front. (payload : List ℕ) → length payload ≡ len
+        → front.items ++ payload ≡ frame_front cloud width key.now payload) }
+{
+    let mut bytes = Vec::new(alloc);
     bytes.extend_from_slice(&[b'N', b'C', b'F', b'1', cloud, width])?;
     bytes.extend_from_slice(&u16_bytes(key.len() as u16))?;
     bytes.extend_from_slice(key)?;
-    bytes.extend_from_slice(&u64_bytes(payload.len() as u64))?;
-    bytes.extend_from_slice(payload)?;
-    let digest = Sha256::digest(bytes.as_slice());
-    bytes.extend_from_slice(&digest)?;
+    bytes.extend_from_slice(&u64_bytes(len as u64))?;
     Ok(bytes)
 }

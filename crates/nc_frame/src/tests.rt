@@ -1,8 +1,8 @@
 ghost use Rattle.nc_name.specs.Keys.{Slots};
 
 use crate::opening::is_digested;
-use crate::{Seen, open, seal};
-use nc_name::{Key, Name};
+use crate::{Seen, open, seal, seal_around};
+use nc_name::{Blob, Key, Name};
 use std::test::Fail;
 
 /// The frame of 0404 on cloud 2 of 4 under chunk "a" slot 0 row 0, its SHA-256 by the program sha256sum.
@@ -88,6 +88,15 @@ fn what_is_no_frame_of_here_is_told(rt: HostRuntime) -> Result<(), Fail> {
         assert_eq!(rt; said_by(&seen), said);
         assert!(rt; payload_of(&seen).is_none());
     }
+    Ok(())
+}
+
+#[test]
+fn a_payload_without_room_is_sealed_too(rt: HostRuntime) -> Result<(), Fail> {
+    let key = chunk(Name::read("a")?);
+    let payload = Blob::from_slice(rt.alloc(), &[4, 4])?;
+    let blob = seal_around(rt.alloc(), 2, 4, &key, payload)?;
+    assert_eq!(rt; blob.bytes(), FRAME.as_slice());
     Ok(())
 }
 

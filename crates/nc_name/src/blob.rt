@@ -22,6 +22,12 @@ impl<T: Drop> From<AllocFailed<T>> for Memory {
     }
 }
 
+/// The room that a frame takes before its payload, whatever its key.
+pub const FRONT: usize = 256;
+
+/// The room that a frame takes behind its payload: that of a digest.
+pub const BEHIND: usize = 32;
+
 /// Bytes on the heap, seen as their list. There may be room before them and behind them, in which more are put without a copy.
 #[derive(Debug, Drop)]
 pub struct Blob {

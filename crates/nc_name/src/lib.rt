@@ -10,7 +10,7 @@ mod sequence;
 mod tests;
 mod text;
 
-pub use blob::{Blob, Memory};
+pub use blob::{BEHIND, Blob, FRONT, Memory};
 pub use key::Key;
 pub use name::{Name, NameFault};
 pub use reading::read_key;
