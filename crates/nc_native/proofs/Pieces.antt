@@ -1,6 +1,7 @@
 -- Pieces of a list of bytes, side by side.
+use Rattle.std.proofs.Math.ListN.{drop_of_length-le}
 use Rattle.std.proofs.Common.{◌≡◌, ℕ, ◌+◌, ◌-◌, ◌*◌, ◌<◌, ◌≤◌, zero, suc, min, List, [], ◌∷◌, ◌++◌, length, get_or, take, drop, map, replicate, inl, inr, sym, ◌∙◌, ap, subst, lit<, arith}
-use Rattle.std.proofs.lemmas.List.{length-drop, append-nil, take_more, get_or_past}
+use Rattle.std.proofs.lemmas.List.{length-drop, drop-append-le, append-nil, take_more, get_or_past}
 use Rattle.std.proofs.lemmas.List.FromFn.{length-map-range_with_len, get_or-map-range_with_len, map-range_with_len_more}
 use Rattle.std.proofs.lemmas.List.Folds.{concat-append}
 use Rattle.std.proofs.lemmas.Bool.{cases_lt}
@@ -122,16 +123,28 @@ rest_more v size i k rest is so =
     (let same : k ≡ min size (length v - i * size) = so ∙ ap (λ r. min size (length r)) is ∙ ap (min size) (length-drop (i * size) v) in
     same_number_lists _ _ (grind (arith, common_steps)) (λ p h. grind (arith, common_steps)))
 
-pub native_more : (v : List ℕ) (n i k size : ℕ) (rest front chunk : List ℕ) (natives : List (List ℕ)) → size ≡ chunk_size (length v) n → rest ≡ drop (i * size) v → k ≡ min size (length rest) → front ≡ take k rest →
-    chunk ≡ front ++ replicate (size - length front) 0 → natives ≡ map (native v n) (range_with_len 0 i) → natives ++ (chunk ∷ []) ≡ map (native v n) (range_with_len 0 (i + 1))
-native_more v n i k size rest front chunk natives e is so begins ends so_far =
+pub native_more : (v : List ℕ) (n first i k size : ℕ) (rest front chunk : List ℕ) (natives : List (List ℕ)) → size ≡ chunk_size (length v) n → first ≤ i → rest ≡ drop (i * size) v →
+    k ≡ min size (length rest) → front ≡ take k rest → chunk ≡ front ++ replicate (size - length front) 0 → natives ≡ drop first (map (native v n) (range_with_len 0 i)) →
+    natives ++ (chunk ∷ []) ≡ drop first (map (native v n) (range_with_len 0 (i + 1)))
+native_more v n first i k size rest front chunk natives e from is so begins ends so_far =
     let same : k ≡ min size (length v - i * size) = so ∙ ap (λ r. min size (length r)) is ∙ ap (min size) (length-drop (i * size) v) in
     let front_is : front ≡ take k (drop (i * size) v) = begins ∙ ap (take k) is in
     let long : length front ≡ k = grind (arith, common_steps) in
     let chunk_is : chunk ≡ piece v (i * size) size =
     ends ∙ ap (λ m. front ++ replicate (size - m) 0) long ∙ ap (λ xs. xs ++ replicate (size - k) 0) front_is ∙ padded_piece v (i * size) size k same in
     let chunk_native : chunk ≡ native v n i = chunk_is ∙ ap (λ s. piece v (i * s) s) e in
-    ap (λ ns. ns ++ (chunk ∷ [])) so_far ∙ ap (λ x. map (native v n) (range_with_len 0 i) ++ (x ∷ [])) chunk_native ∙ sym (map-range_with_len_more (native v n) 0 i i (omega arith))
+    let before : List (List ℕ) = map (native v n) (range_with_len 0 i) in
+    let reached : first ≤ length before = subst (λ m. first ≤ m) (sym (length-map-range_with_len (native v n) 0 i)) from in
+    ap (λ ns. ns ++ (chunk ∷ [])) so_far
+    ∙ ap (λ x. drop first before ++ (x ∷ [])) chunk_native
+    ∙ sym (drop-append-le first before (native v n i ∷ []) reached)
+    ∙ ap (drop first) (sym (map-range_with_len_more (native v n) 0 i i (omega arith)))
+
+-- no native before the first
+pub none_yet : (v : List ℕ) (n first : ℕ) → [] ≡ drop first (map (native v n) (range_with_len 0 first))
+none_yet v n first =
+    let long : length (map (native v n) (range_with_len 0 first)) ≡ first = length-map-range_with_len (native v n) 0 first in
+    sym (drop_of_length-le (map (native v n) (range_with_len 0 first)) (omega (arith, long)))
 
 -- a combination has the size of a chunk
 pub length-combination : (row v : List ℕ) (n : ℕ) → length (combination row v n) ≡ chunk_size (length v) n

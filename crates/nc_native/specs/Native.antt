@@ -1,5 +1,6 @@
 -- How a file is cut into native chunks, and what a combination of them is.
-use Rattle.std.specs.Prelude.{ℕ, ◌≡◌, ◌+◌, ◌*◌, ◌<◌, List, [], length, map, slice_index, slice_index_or}
+use Rattle.std.specs.Prelude.{ℕ, ◌≡◌, ◌+◌, ◌*◌, ◌/◌, ◌<◌, List, [], length, map, drop, max, slice_index, slice_index_or}
+use Rattle.std.specs.Borrow.{Bor}
 use Rattle.std.specs.List.{range_with_len}
 use Rattle.std.specs.Int.{div_ceil}
 use Rattle.nc_gf256.specs.Field.{mul, total}
@@ -19,6 +20,18 @@ native v n i = piece v (i * chunk_size (length v) n) (chunk_size (length v) n)
 
 abbrev pub natives_of : List ℕ → ℕ → List (List ℕ)
 natives_of v n = map (native v n) (range_with_len 0 (native_count n))
+
+-- how many natives lie wholly in a file of so many bytes: none, where it is empty
+abbrev pub whole_count : ℕ → ℕ → ℕ
+whole_count len n = len / max (chunk_size len n) 1
+
+-- the natives that the file doesn't fill, in order
+abbrev pub tail_of : List ℕ → ℕ → List (List ℕ)
+tail_of v n = drop (whole_count (length v) n) (natives_of v n)
+
+-- the lists behind references
+abbrev pub lent : List (Bor (List ℕ)) → List (List ℕ)
+lent sources = map (λ s. s.now) sources
 
 -- byte p is the sum, over the natives i, of row[i] times byte p of native i
 unfoldable pub combination : List ℕ → List ℕ → ℕ → List ℕ

@@ -1,4 +1,4 @@
-ghost use Rattle.std.specs.Prelude.{◌≡◌, ℕ, ◌≤◌, List, length, IfOk};
+ghost use Rattle.std.specs.Prelude.{◌≡◌, ℕ, ◌*◌, ◌≤◌, List, drop, length, IfOk};
 ghost use Rattle.nc_bytes.specs.Bytes.{padded};
 ghost use Rattle.nc_gf256.specs.Width.{native_count};
 ghost use Rattle.nc_native.specs.Native.{chunk_size, natives_of, native_len, AllLong};
@@ -24,10 +24,21 @@ pub fn cut(alloc: Global, bytes: &[u8], width: u8) -> Result<Natives, Memory>
     ensures count { IfOk result (λ natives. length natives ≡ native_count width) }
     ensures long { IfOk result (λ natives. AllLong (native_len natives) natives) }
 {
+    cut_from(alloc, bytes, width, 0)
+}
+
+/// The natives of a file from this one on.
+pub fn cut_from(alloc: Global, bytes: &[u8], width: u8, first: usize) -> Result<Natives, Memory>
+    requires wide { 4 ≤ width }
+    requires narrow { width ≤ 10 }
+    requires few { first ≤ native_count width }
+    requires fits { first * chunk_size (length bytes.now) width ≤ length bytes.now }
+    ensures { IfOk result (λ natives. natives ≡ drop first (natives_of bytes.now width)) }
+{
     let size = chunk_size(bytes.len() as u64, width) as usize;
     let mut natives = Natives::new(alloc);
-    let mut rest = bytes;
-    for _i in 0..2 * (usize::from(width) - 2) {
+    let (_, mut rest) = bytes.split_at(first * size);
+    for _i in first..2 * (usize::from(width) - 2) {
         let (front, back) = rest.split_at(size.min(rest.len()));
         natives.push(filled_up(alloc, front, size)?)?;
         rest = back;

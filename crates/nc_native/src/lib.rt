@@ -1,11 +1,13 @@
-//! Cutting a file into native chunks, and joining them.
+//! Cutting a file into native chunks, lending them where they stand in it, and joining them.
 #![tactic(auto)]
 
 mod cutting;
 mod joining;
+mod lending;
 
 pub use cutting::{chunk_size, cut};
 pub use joining::{join, joins};
+pub use lending::{lend_natives, tail_of};
 use nc_name::{Blob, Sequence};
 
 /// Native chunks in order.
@@ -47,6 +49,67 @@ mod tests {
     #[test]
     fn an_empty_file_has_empty_natives(rt: HostRuntime) -> Result<(), Fail> {
         cuts_and_joins(&rt, rt.alloc(), b"", [b"", b"", b"", b""])
+    }
+
+    /// The natives of a text, of which so many at the end don't lie in it.
+    fn lends(
+        rt: &impl Abort,
+        alloc: Global,
+        text: &[u8],
+        wanted: [&[u8]; 4],
+        behind: usize,
+    ) -> Result<(), Fail> {
+        let tail = tail_of(alloc, text, 4)?;
+        assert_eq!(rt; tail.items().len(), behind);
+        let natives = lend_natives(alloc, text, 4, &tail)?;
+        assert_eq!(rt; natives.len(), 4);
+        for (native, want) in natives.iter().zip(wanted) {
+            assert_eq!(rt; *native, want);
+        }
+        Ok(())
+    }
+
+    #[test]
+    fn eight_bytes_are_lent_as_they_stand(rt: HostRuntime) -> Result<(), Fail> {
+        lends(
+            &rt,
+            rt.alloc(),
+            b"abcdefgh",
+            [b"ab", b"cd", b"ef", b"gh"],
+            0,
+        )
+    }
+
+    #[test]
+    fn the_last_of_seven_bytes_is_copied(rt: HostRuntime) -> Result<(), Fail> {
+        lends(
+            &rt,
+            rt.alloc(),
+            b"abcdefg",
+            [b"ab", b"cd", b"ef", b"g\0"],
+            1,
+        )
+    }
+
+    #[test]
+    fn one_byte_is_lent_before_zeros(rt: HostRuntime) -> Result<(), Fail> {
+        lends(&rt, rt.alloc(), b"a", [b"a", b"\0", b"\0", b"\0"], 3)
+    }
+
+    #[test]
+    fn of_an_empty_file_nothing_is_lent(rt: HostRuntime) -> Result<(), Fail> {
+        lends(&rt, rt.alloc(), b"", [b"", b"", b"", b""], 4)
+    }
+
+    #[test]
+    fn one_byte_is_lent_at_width_ten(rt: HostRuntime) -> Result<(), Fail> {
+        let tail = tail_of(rt.alloc(), b"Z", 10)?;
+        assert_eq!(rt; tail.items().len(), 15);
+        let natives = lend_natives(rt.alloc(), b"Z", 10, &tail)?;
+        assert_eq!(rt; natives.len(), 16);
+        assert_eq!(rt; natives[0], b"Z".as_slice());
+        assert_eq!(rt; natives[15], b"\0".as_slice());
+        Ok(())
     }
 
     #[test]

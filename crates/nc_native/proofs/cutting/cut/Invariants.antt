@@ -1,7 +1,0 @@
-use Rattle.std.proofs.Common.{◌≡◌, ◌*◌, drop, map}
-use Rattle.std.specs.List.{range_with_len}
-use Rattle.nc_native.specs.Native.{native}
-use Rattle.nc_native.proofs.cutting.cut.Given as goal
-
-abbrev pub invariant-loop-i : goal.invariant-loop-i
-invariant-loop-i l = (l.rest ≡ drop (l._i * l.size) l.bytes) × (l.natives ≡ map (native l.bytes l.width) (range_with_len 0 l._i))
