@@ -126,7 +126,16 @@ pub fn decode_with<R: Threads + Sync, G: Gate + Sync>(
     };
     let mut file = zeros(alloc, total)?;
     let mut strips = strips_for(alloc, workers)?;
-    place_blocks(rt, &mut file, &mut strips, &sources, rows, size, gate)?;
+    place_blocks(
+        rt,
+        &mut file,
+        &mut strips,
+        &sources,
+        rows,
+        size,
+        workers,
+        gate,
+    )?;
     file.truncate(len);
     Ok(Blob::from_vec(file))
 }

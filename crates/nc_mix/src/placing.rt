@@ -18,8 +18,10 @@ pub fn place_blocks<R: Threads + Sync, G: Gate + Sync>(
     sources: &[&[u8]],
     rows: &[[u8; 16]],
     size: usize,
+    workers: u8,
     gate: &G,
 ) -> Result<(), Memory>
+    requires some_worker { 1 ≤ workers }
     requires few { length (lent sources.now) ≤ 16 }
     requires long { AllLong size (lent sources.now) }
     requires some_strip { 0 < length strips.old }
@@ -28,7 +30,7 @@ pub fn place_blocks<R: Threads + Sync, G: Gate + Sync>(
 {
     let mut at = 0;
     while at < size {
-        at = mix_block(rt, strips, sources, rows, size, at, gate)?;
+        at = mix_block(rt, strips, sources, rows, size, at, workers, gate)?;
         place_all(sums, strips, rows.len(), size);
     }
     Ok(())

@@ -11,14 +11,14 @@ use std::alloc::Global;
 use std::thread;
 use std::thread::Threads;
 
-// At most so many bytes of each mix are made by one worker at once, so that the bytes of the
-// sources stay in its nearest caches from row to row.
-const PART: usize = 65536;
+// At most so many bytes of each mix are made at once, so that the bytes of the sources stay in
+// the nearest caches from row to row.
+const PART: usize = 32768;
 
-// No fewer than there are workers, each of which has a strip.
-const MOST_THREADS: usize = 16;
+// So many parts are made by a worker before its threads are joined.
+const EACH: usize = 8;
 
-/// What one worker makes at once: a part of each row's mix, one after another.
+/// What a worker makes at once: a part of each row's mix, one after another.
 #[derive(Drop)]
 pub struct Strip {
     /// The place of the part's first byte in its mix.
@@ -28,12 +28,12 @@ pub struct Strip {
     pub bytes: Vec<u8>,
 }
 
-/// An empty strip for each worker.
+/// Empty strips for so many workers, of which each has several.
 pub fn strips_for(alloc: Global, workers: u8) -> Result<Vec<Strip>, Memory>
-    ensures { IfOk result (λ v. length v.items ≡ workers) }
+    ensures { IfOk result (λ v. length v.items ≡ EACH * workers) }
 {
     let mut strips = Vec::new(alloc);
-    for _ in 0..workers {
+    for _ in 0..EACH * usize::from(workers) {
         let strip = Strip {
             start: 0,
             count: 0,
@@ -54,8 +54,10 @@ pub fn mix_block<R: Threads + Sync, G: Gate + Sync>(
     rows: &[[u8; 16]],
     size: usize,
     at: usize,
+    workers: u8,
     gate: &G,
 ) -> Result<usize, Memory>
+    requires some_worker { 1 ≤ workers }
     requires few { length (lent sources.now) ≤ 16 }
     requires long { AllLong size (lent sources.now) }
     requires left { at < size }
@@ -68,7 +70,7 @@ pub fn mix_block<R: Threads + Sync, G: Gate + Sync>(
 {
     let part = (size - at).div_ceil(strips.len()).min(PART);
     let end = plan(strips, rows.len(), size, at, part)?;
-    mix_strips(rt, strips, sources, rows, size, gate);
+    mix_strips(rt, strips, sources, rows, size, workers, gate);
     Ok(end)
 }
 
@@ -112,15 +114,17 @@ fn give(strip: &mut Strip, rows: usize, start: usize, count: usize) -> Result<()
     Ok(())
 }
 
-/// Makes the parts of all strips, at the same time.
+/// Makes the parts of all strips, by so many threads at most.
 fn mix_strips<R: Threads + Sync, G: Gate + Sync>(
     rt: &R,
     strips: &mut [Strip],
     sources: &[&[u8]],
     rows: &[[u8; 16]],
     size: usize,
+    workers: u8,
     gate: &G,
 )
+    requires some_worker { 1 ≤ workers }
     requires few { length (lent sources.now) ≤ 16 }
     requires long { AllLong size (lent sources.now) }
     requires room { All (HasRoom (length rows.now) size) strips.old }
@@ -129,7 +133,7 @@ fn mix_strips<R: Threads + Sync, G: Gate + Sync>(
     thread::for_each_mut(
         rt,
         strips,
-        MOST_THREADS,
+        usize::from(workers),
         &|_, strip| mix_strip(strip, sources, rows, size, gate),
     );
 }

@@ -30,7 +30,16 @@ pub fn mix_rows<R: Threads + Sync, G: Gate + Sync>(
 {
     let mut sums = empty_sums(alloc, rows.len(), size)?;
     let mut strips = strips_for(alloc, workers)?;
-    add_blocks(rt, &mut sums, &mut strips, sources, rows, size, gate)?;
+    add_blocks(
+        rt,
+        &mut sums,
+        &mut strips,
+        sources,
+        rows,
+        size,
+        workers,
+        gate,
+    )?;
     finish(alloc, sums)
 }
 
@@ -55,8 +64,10 @@ fn add_blocks<R: Threads + Sync, G: Gate + Sync>(
     sources: &[&[u8]],
     rows: &[[u8; 16]],
     size: usize,
+    workers: u8,
     gate: &G,
 ) -> Result<(), Memory>
+    requires some_worker { 1 ≤ workers }
     requires few { length (lent sources.now) ≤ 16 }
     requires long { AllLong size (lent sources.now) }
     requires some_strip { 0 < length strips.old }
@@ -65,7 +76,7 @@ fn add_blocks<R: Threads + Sync, G: Gate + Sync>(
 {
     let mut at = 0;
     while at < size {
-        at = mix_block(rt, strips, sources, rows, size, at, gate)?;
+        at = mix_block(rt, strips, sources, rows, size, at, workers, gate)?;
         append_all(sums, strips, size)?;
     }
     Ok(())
