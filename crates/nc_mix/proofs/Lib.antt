@@ -1,6 +1,6 @@
 pub mod Mixes
 pub mod Parts
-pub mod Appended
+pub mod Extended
 pub mod SideBySide
 pub mod Missing
 pub mod Solving

@@ -1,11 +1,13 @@
 -- How the parts of mixes add up.
-use Rattle.std.proofs.Common.{◌≡◌, ℕ, zero, suc, ◌+◌, List, [], ◌∷◌, ◌++◌, length, take, drop}
-use Rattle.std.proofs.Common.{map, refl, sym, ◌∙◌, ap, subst, arith}
-use Rattle.std.proofs.lemmas.List.{take_at, drop_at}
+use Rattle.std.proofs.Common.{◌≡◌, ℕ, zero, suc, ◌+◌, ◌*◌, ◌<◌, ◌≤◌, List, [], ◌∷◌, ◌++◌}
+use Rattle.std.proofs.Common.{All, length, get_or, take, drop, map, refl, sym, ◌∙◌, ap, subst, arith}
+use Rattle.std.proofs.lemmas.List.{take_at, drop_at, drop-drop}
+use Rattle.std.proofs.lemmas.Nat.{mul-le}
 use Rattle.std.specs.List.{concat, range_with_len}
 use Rattle.nc_mix.specs.declared.strips.Strip.{Strip}
 use Rattle.nc_mix.specs.Mixing.{mixed_byte, mixed, mixed_part, mixed_parts}
-use Rattle.nc_mix.specs.Strips.{AllMix, Follow, Mixes}
+use Rattle.nc_bytes.specs.Bytes.{part}
+use Rattle.nc_mix.specs.Strips.{AllMix, Follow, HasRoom, HoldParts, IsMixed, Mixes, part_in}
 use Rattle.nc_mix.proofs.Mixes.{length-part}
 
 -- the part of all bytes is the mix
@@ -48,6 +50,23 @@ module _ (sources : List (List ℕ)) where
   later_parts start count row rows =
       drop_at (mixed_part start count row sources) _ count (length-part start count row sources)
 
+  -- part k is that of row k
+  pub part_at : (start count k : ℕ) (rows : List (List ℕ)) → k < length rows →
+      part (k * count) count (concat (mixed_parts start count rows sources))
+      ≡ mixed_part start count (get_or rows k []) sources
+  part_at start count k [] h = absurd (omega arith)
+  part_at start count zero (row ∷ rows) h =
+      let none : 0 * count ≡ 0 = omega arith in
+      ap (λ j. part j count (concat (mixed_parts start count (row ∷ rows) sources))) none
+      ∙ first_part start count row rows
+  part_at start count (suc k) (row ∷ rows) h =
+      let parts : List ℕ = concat (mixed_parts start count (row ∷ rows) sources) in
+      let more : suc k * count ≡ count + k * count = omega arith in
+      ap (λ j. part j count parts) more
+      ∙ ap (take count) (sym (drop-drop (k * count) count parts))
+      ∙ ap (part (k * count) count) (later_parts start count row rows)
+      ∙ part_at start count k rows (omega arith)
+
 -- the strips lie where they lay
 pub follow_on : (rows sources : List (List ℕ)) (at end : ℕ) (old new : List Strip) →
     AllMix rows sources old new → Follow at old end → Follow at new end
@@ -64,3 +83,21 @@ follow_on rows sources at end (before ∷ old) (strip ∷ new) mix follow =
     let rest : Follow (at + before.count) new end =
     follow_on rows sources (at + before.count) end old new others follow.1 in
     (first.start ∙ follow.0, subst (λ n. Follow (at + n) new end) (sym first.count) rest)
+
+-- where there is room for a part of each row, there are as many parts
+pub hold_parts : (rows size : ℕ) (strips : List Strip) → All (HasRoom rows size) strips →
+    HoldParts rows strips
+hold_parts rows size strips each k h i d within =
+    let strip : Strip = get_or strips i d in
+    let room : length strip.bytes.items ≡ rows * strip.count = (each i d within).room in
+    let up : (k + 1) * strip.count ≤ rows * strip.count =
+    mul-le (k + 1) strip.count rows strip.count (omega arith) (omega arith) in
+    omega (arith, room, up)
+
+-- part k of a strip is that of row k
+pub part_is : (rows sources : List (List ℕ)) (k : ℕ) (strip : Strip) → k < length rows →
+    IsMixed rows sources strip →
+    part_in k strip ≡ mixed_part strip.start strip.count (get_or rows k []) sources
+part_is rows sources k strip h mixed =
+    ap (part (k * strip.count) strip.count) mixed
+    ∙ part_at sources strip.start strip.count k rows h

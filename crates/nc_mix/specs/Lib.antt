@@ -2,3 +2,4 @@ pub mod Mixing
 pub mod Decoding
 pub mod Regenerating
 pub mod Strips
+pub mod Sums

@@ -1,7 +1,8 @@
 -- Parts of all mixes, made at the same time.
 use Rattle.std.specs.Prelude.{ℕ, zero, suc, ◌≡◌, ◌+◌, ◌*◌, ◌<◌, ◌≤◌, List, [], ◌∷◌, ◌++◌}
 use Rattle.std.specs.Prelude.{drop, length, slice_index_or, take}
-use Rattle.std.specs.List.{concat}
+use Rattle.std.specs.List.{All, concat, flat_map}
+use Rattle.nc_bytes.specs.Bytes.{part}
 use Rattle.nc_mix.specs.declared.strips.Strip.{Strip}
 use Rattle.nc_mix.specs.Mixing.{mixed_part, mixed_parts}
 
@@ -32,16 +33,21 @@ pub record AllMix (rows sources : List (List ℕ)) (old new : List Strip) : Type
   pub each : (k : ℕ) (d : Strip) → k < length old
       → Mixes rows sources (slice_index_or old k d) (slice_index_or new k d)
 
--- the next part of each sum is put behind it
-abbrev pub appended : ℕ → List ℕ → List (List ℕ) → List (List ℕ)
-appended count parts [] = []
-appended count parts (sum ∷ sums) = (sum ++ take count parts) ∷ appended count (drop count parts) sums
+-- part k of those that the strip holds
+abbrev pub part_in : ℕ → Strip → List ℕ
+part_in k strip = part (k * strip.count) strip.count strip.bytes.items
 
--- each strip's parts in turn
-abbrev pub all_appended : List Strip → List (List ℕ) → List (List ℕ)
-all_appended [] sums = sums
-all_appended (strip ∷ strips) sums =
-    all_appended strips (appended strip.count strip.bytes.items sums)
+-- part k of each strip in turn
+abbrev pub parts_in : ℕ → List Strip → List ℕ
+parts_in k strips = flat_map (part_in k) strips
+
+-- the strip has a part k
+abbrev pub HoldsPart : ℕ → Strip → Type 0
+HoldsPart k strip = k * strip.count + strip.count ≤ length strip.bytes.items
+
+-- each strip has so many parts
+abbrev pub HoldParts : ℕ → List Strip → Type 0
+HoldParts rows strips = (k : ℕ) → k < rows → All (HoldsPart k) strips
 
 -- the part is written over what a sum holds from start on
 abbrev pub put_at : ℕ → List ℕ → List ℕ → List ℕ

@@ -1,49 +1,52 @@
-ghost use Rattle.std.specs.Prelude.{◌≡◌, [], ◌++◌, IfOk, OnOk};
+ghost use Rattle.std.specs.Prelude.{◌≡◌, [], IfOk};
+ghost use Rattle.nc_mix.specs.Sums.{Extends, kept};
 
 use nc_name::{Blob, Memory};
 use std::alloc::Global;
-use std::marker::Model;
 
-/// The bytes of a mix so far, seen as their list.
+// A seal puts a frame around the bytes without a copy: so much room stays in front of them,
+const FRONT: usize = 256;
+
+// and so much behind them.
+const BEHIND: usize = 32;
+
+/// The bytes of a mix so far.
 #[derive(Drop)]
 pub struct Sum {
-    bytes: Vec<u8>,
-}
-
-impl Model for Sum {
-    ghost use Rattle.std.specs.Prelude.{ℕ, List};
-
-    ghost Value = { List ℕ };
-
-    ghost view = { λ s. s.bytes.items };
+    pub bytes: Blob,
+    /// No memory was found for some part: the bytes don't count.
+    pub refused: bool,
 }
 
 impl Sum {
     /// No bytes, and room for so many.
     pub fn with_room(alloc: Global, size: usize) -> Result<Sum, Memory>
-        ensures { IfOk result (λ sum. sum ≡ []) }
+        ensures { IfOk result (λ sum. sum ≡ kept []) }
     {
-        match Vec::with_capacity(alloc, size) {
-            Ok(bytes) => Ok(Sum { bytes }),
-            Err(_) => Err(Memory),
+        let bytes = Blob::with_room(alloc, FRONT, size.saturating_add(BEHIND))?;
+        Ok(Sum {
+            bytes,
+            refused: false,
+        })
+    }
+
+    /// Puts the part at the end, where memory is found for it.
+    pub fn append(&mut self, part: &[u8])
+        ensures { Extends part.now self.old self.new }
+    {
+        if self.bytes.append(part).is_err() {
+            self.refused = true;
         }
     }
 
-    /// Puts the part at the end.
-    pub fn append(&mut self, part: &[u8]) -> Result<(), Memory>
-        ensures { OnOk result (self.new ≡ self.old ++ part.now) }
+    /// All bytes. It takes no memory; `Memory` says that some part was refused.
+    pub fn finish(self) -> Result<Blob, Memory>
+        ensures { IfOk result (λ bytes. self ≡ kept bytes) }
     {
-        match self.bytes.extend_from_slice(part) {
-            Ok(()) => Ok(()),
-            Err(_) => Err(Memory),
+        let Sum { bytes, refused } = self;
+        if refused {
+            return Err(Memory);
         }
-    }
-
-    /// All bytes. It takes no memory.
-    pub fn finish(self) -> Blob
-        ensures { result ≡ self }
-    {
-        let Sum { bytes } = self;
-        Blob::from_vec(bytes)
+        Ok(bytes)
     }
 }

@@ -1,15 +1,18 @@
-ghost use Rattle.std.specs.Prelude.{◌≡◌, ◌*◌, ◌<◌, ◌≤◌, All, [], length, map, replicate, IfOk, OnOk};
+ghost use Rattle.std.specs.Prelude.{◌≡◌, ◌<◌, ◌≤◌, All, [], length, map, replicate, IfOk, OnOk};
 ghost use Rattle.std.specs.Borrow.{Bor};
 ghost use Rattle.nc_native.specs.Native.{AllLong};
-ghost use Rattle.nc_mix.specs.Mixing.{lent, mixed, mixed_parts};
-ghost use Rattle.nc_mix.specs.Strips.{HasRoom, all_appended, appended};
+ghost use Rattle.nc_mix.specs.Mixing.{lent, mixed};
+ghost use Rattle.nc_mix.specs.Strips.{HoldParts, HoldsPart, parts_in};
+ghost use Rattle.nc_mix.specs.Sums.{AllExtend, AreSums, Extends, kept};
 
 use crate::Chunks;
 use crate::gates::Gate;
 use crate::strips::{Strip, mix_block, strips_for};
 use crate::sum::Sum;
+use nc_bytes::part_of;
 use nc_name::Memory;
 use std::alloc::Global;
+use std::thread;
 use std::thread::Threads;
 
 /// The mixes of the sources by the rows, block by block: a source is read once for all of them.
@@ -45,7 +48,7 @@ pub fn mix_rows<R: Threads + Sync, G: Gate + Sync>(
 
 /// So many empty sums, with room for so many bytes each.
 fn empty_sums(alloc: Global, count: usize, size: usize) -> Result<Vec<Sum>, Memory>
-    ensures { IfOk result (λ v. v.items ≡ replicate count []) }
+    ensures { IfOk result (λ v. v.items ≡ replicate count (kept [])) }
 {
     let mut sums = Vec::new(alloc);
     for _ in 0..count {
@@ -56,7 +59,7 @@ fn empty_sums(alloc: Global, count: usize, size: usize) -> Result<Vec<Sum>, Memo
     Ok(sums)
 }
 
-/// Makes block after block, and puts each behind what is there of the sums.
+/// Makes block after block, and puts each behind what is there of the sums, where memory is found for it.
 fn add_blocks<R: Threads + Sync, G: Gate + Sync>(
     rt: &R,
     sums: &mut [Sum],
@@ -71,48 +74,48 @@ fn add_blocks<R: Threads + Sync, G: Gate + Sync>(
     requires few { length (lent sources.now) ≤ 16 }
     requires long { AllLong size (lent sources.now) }
     requires some_strip { 0 < length strips.old }
-    requires empty { sums.old ≡ replicate (length rows.now) [] }
-    ensures { OnOk result (sums.new ≡ mixed_parts 0 size rows.now (lent sources.now)) }
+    requires empty { sums.old ≡ replicate (length rows.now) (kept []) }
+    ensures { OnOk result (AreSums size rows.now (lent sources.now) sums.new) }
 {
     let mut at = 0;
     while at < size {
         at = mix_block(rt, strips, sources, rows, size, at, workers, gate)?;
-        append_all(sums, strips, size)?;
+        extend_all(rt, sums, strips, workers);
     }
     Ok(())
 }
 
-/// Puts the parts of all strips behind what is there of the sums.
-fn append_all(sums: &mut [Sum], strips: &[Strip], size: usize) -> Result<(), Memory>
-    requires { All (HasRoom (length sums.old) size) strips.now }
-    ensures { OnOk result (sums.new ≡ all_appended strips.now sums.old) }
+/// Puts the parts of all strips behind what is there of the sums, by so many threads at most.
+fn extend_all<R: Threads + Sync>(rt: &R, sums: &mut [Sum], strips: &[Strip], workers: u8)
+    requires some_worker { 1 ≤ workers }
+    requires parts { HoldParts (length sums.old) strips.now }
+    ensures { AllExtend strips.now sums.old sums.new }
+{
+    thread::for_each_mut(
+        rt,
+        sums,
+        usize::from(workers),
+        &|k, sum| extend(sum, strips, k),
+    );
+}
+
+/// Puts part `k` of each strip in turn behind what is there of the sum.
+fn extend(sum: &mut Sum, strips: &[Strip], k: usize)
+    requires { All (HoldsPart k) strips.now }
+    ensures { Extends (parts_in k strips.now) sum.old sum.new }
 {
     for strip in strips {
-        append(sums, &strip.bytes, strip.count)?;
+        sum.append(part_of(&strip.bytes, k * strip.count, strip.count));
     }
-    Ok(())
-}
-
-/// Puts the next part of each sum behind what is there of it.
-fn append(sums: &mut [Sum], parts: &[u8], count: usize) -> Result<(), Memory>
-    requires { length parts.now ≡ length sums.old * count }
-    ensures { OnOk result (sums.new ≡ appended count parts.now sums.old) }
-{
-    if let Some((sum, others)) = sums.split_first_mut() {
-        let (part, after) = parts.split_at(count);
-        sum.append(part)?;
-        append(others, after, count)?;
-    }
-    Ok(())
 }
 
 /// The finished sums.
 fn finish(alloc: Global, sums: Vec<Sum>) -> Result<Chunks, Memory>
-    ensures { IfOk result (λ chunks. chunks ≡ sums.items) }
+    ensures { IfOk result (λ chunks. sums.items ≡ map kept chunks) }
 {
     let mut chunks = Chunks::new(alloc);
     for sum in sums {
-        chunks.push(sum.finish())?;
+        chunks.push(sum.finish()?)?;
     }
     Ok(chunks)
 }

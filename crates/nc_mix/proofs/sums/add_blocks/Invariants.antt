@@ -1,5 +1,6 @@
-use Rattle.std.proofs.Common.{◌≡◌, ◌≤◌, ◌-◌}
-use Rattle.nc_mix.specs.Mixing.{lent, mixed_parts}
+use Rattle.std.proofs.Common.{◌≤◌, ◌-◌}
+use Rattle.nc_mix.specs.Mixing.{lent}
+use Rattle.nc_mix.specs.Sums.{AreSums}
 use Rattle.nc_mix.proofs.sums.add_blocks.Given as goal
 
 abbrev pub decreases-loop-at : goal.decreases-loop-at
@@ -7,4 +8,4 @@ decreases-loop-at g l = l.fn.size - l.at
 
 abbrev pub invariant-loop-at : goal.invariant-loop-at
 invariant-loop-at g l =
-    (l.sums ≡ mixed_parts 0 l.at l.fn.rows (lent l.fn.sources)) × (l.at ≤ l.fn.size)
+    AreSums l.at l.fn.rows (lent l.fn.sources) l.sums × (l.at ≤ l.fn.size)
