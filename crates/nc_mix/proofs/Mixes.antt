@@ -98,10 +98,10 @@ chunks_of_file code v wide =
     }
 
 -- the first source has the length of the natives
-pub first_long : (sources : List (Bor (List ℕ))) (natives : List (List ℕ)) (first : Bor (List ℕ)) (n : ℕ) → lent sources ≡ natives → length natives ≡ native_count n → 4 ≤ n → first ≡ get_or sources 0 first → length first.now ≡ native_len natives
-first_long sources natives first n same count wide is =
+pub first_long : (sources : List (Bor (List ℕ))) (natives : List (List ℕ)) (d : Bor (List ℕ)) (n : ℕ) → lent sources ≡ natives → length natives ≡ native_count n → 4 ≤ n → length (get_or sources 0 d).now ≡ native_len natives
+first_long sources natives d n same count wide =
     let many : length sources ≡ native_count n = sym (length-map sources (λ s. s.now)) ∙ ap length same ∙ count in
-    ap (λ s. length s.now) is ∙ ap length (sym (lent_at sources 0 first (omega arith))) ∙ ap (λ xs. length (get_or xs 0 [])) same
+    ap length (sym (lent_at sources 0 d (omega arith))) ∙ ap (λ xs. length (get_or xs 0 [])) same
 
 pub length-mixed : (size : ℕ) (row : List ℕ) (sources : List (List ℕ)) → length (mixed size row sources) ≡ size
 unfolding mixed

@@ -1,9 +1,9 @@
 -- Sums of multiples of byte lists.
 use Rattle.std.specs.Prelude.{ℕ, ◌≡◌, ◌+◌, ◌*◌, ◌<◌, List, [], bit_xor, length, map, slice_index, slice_index_or}
-use Rattle.std.specs.Borrow.{Bor}
 use Rattle.std.specs.List.{range_with_len}
 use Rattle.nc_gf256.specs.Field.{mul, total}
 use Rattle.nc_native.specs.Native.{combination, native_len}
+pub use Rattle.nc_native.specs.Native.{lent}
 use Rattle.nc_code.specs.Parts.{CodeParts}
 use Rattle.nc_code.specs.Codes.{code_row}
 
@@ -42,7 +42,3 @@ HasMultiples factor source start old new = (p : ℕ) → p < length old → slic
 -- the mix of the first so many sources from start on is added
 abbrev pub HasAdded : ℕ → List ℕ → List (List ℕ) → ℕ → List ℕ → List ℕ → Type 0
 HasAdded count row sources start old new = (p : ℕ) → p < length old → slice_index new p ≡ bit_xor (slice_index old p) (mixed_byte count row sources (start + p))
-
--- the lists behind references
-abbrev pub lent : List (Bor (List ℕ)) → List (List ℕ)
-lent sources = map (λ s. s.now) sources

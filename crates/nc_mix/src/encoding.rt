@@ -10,7 +10,7 @@ use crate::gates::Gate;
 use crate::sums::mix_rows;
 use nc_code::Code;
 use nc_name::{Blob, Memory};
-use nc_native::Natives;
+use nc_native::{Natives, lend_natives, tail_of};
 use std::alloc::Global;
 use std::thread::Threads;
 
@@ -32,10 +32,53 @@ pub fn encode<R: Threads + Sync, G: Gate + Sync>(
     ensures count { IfOk result (λ chunks. length chunks ≡ 2 * code.now.width) }
     ensures of_file { IfOk result (λ chunks. (v : List ℕ) → natives.now ≡ natives_of v code.now.width → AreChunksOf code.now v chunks) }
 {
-    let rows = first_rows(&code.rows, 2 * code.width() as usize);
     let sources = lend(alloc, natives.items())?;
+    encode_lent(rt, alloc, &sources, code, workers, gate)
+}
+
+/// The chunks of a file, as `encode` makes them of its natives. No native that lies wholly in the file is copied.
+pub fn encode_file<R: Threads + Sync, G: Gate + Sync>(
+    rt: &R,
+    alloc: Global,
+    bytes: &[u8],
+    code: &Code,
+    workers: u8,
+    gate: &G,
+) -> Result<Chunks, Memory>
+    requires some_worker { 1 ≤ workers }
+    requires few_workers { workers ≤ 16 }
+    ensures count { IfOk result (λ chunks. length chunks ≡ 2 * code.now.width) }
+    ensures of_file { IfOk result (AreChunksOf code.now bytes.now) }
+{
+    let tail = tail_of(alloc, bytes, code.width())?;
+    let sources = lend_natives(alloc, bytes, code.width(), &tail)?;
+    encode_lent(rt, alloc, &sources, code, workers, gate)
+}
+
+/// The chunks made of natives, wherever these lie.
+fn encode_lent<R: Threads + Sync, G: Gate + Sync>(
+    rt: &R,
+    alloc: Global,
+    sources: &[&[u8]],
+    code: &Code,
+    workers: u8,
+    gate: &G,
+) -> Result<Chunks, Memory>
+    requires count { length (lent sources.now) ≡ native_count code.now.width }
+    requires long { AllLong (native_len (lent sources.now)) (lent sources.now) }
+    requires some_worker { 1 ≤ workers }
+    requires few_workers { workers ≤ 16 }
+    ensures chunks { IfOk result
+        (λ chunks. chunks ≡ chunks_of (2 * code.now.width) code.now.rows (lent sources.now)) }
+    ensures count { IfOk result (λ chunks. length chunks ≡ 2 * code.now.width) }
+    ensures of_file { IfOk result
+        (λ chunks. (v : List ℕ) →
+        lent sources.now ≡ natives_of v code.now.width →
+        AreChunksOf code.now v chunks) }
+{
+    let rows = first_rows(&code.rows, 2 * code.width() as usize);
     let size = sources[0].len();
-    mix_rows(rt, alloc, &sources, rows, size, workers, gate)
+    mix_rows(rt, alloc, sources, rows, size, workers, gate)
 }
 
 /// The bytes of each blob.

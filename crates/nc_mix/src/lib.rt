@@ -15,7 +15,7 @@ mod sum;
 mod sums;
 
 pub use decoding::decode;
-pub use encoding::encode;
+pub use encoding::{encode, encode_file};
 pub use gates::{Gate, Open};
 use nc_name::{Blob, Sequence};
 pub use pieces::{Pair, Piece};

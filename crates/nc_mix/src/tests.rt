@@ -4,7 +4,7 @@ ghost use Rattle.nc_native.specs.Native.{chunk_size};
 ghost use Rattle.nc_mix.specs.Decoding.{IsLong};
 
 use crate::decoding::{decode_with, first_rows, square_of};
-use crate::{Gate, Open, Piece, encode};
+use crate::{Gate, Open, Piece, encode, encode_file};
 use nc_code::{Code, striped};
 use nc_matrix::{Outcome, invert};
 use nc_name::{Blob, Memory};
@@ -202,6 +202,47 @@ fn each_pair_of_clouds_may_be_lost(rt: HostRuntime) -> Result<(), Fail> {
         assert_eq!(rt; pairs_to_lose(&rt, rt.alloc(), 4, len)?, 6, "{len} bytes");
         assert_eq!(rt; pairs_to_lose(&rt, rt.alloc(), 7, len)?, 21, "{len} bytes");
         assert_eq!(rt; pairs_to_lose(&rt, rt.alloc(), 10, len)?, 45, "{len} bytes");
+    }
+    Ok(())
+}
+
+/// Whether a file of so many bytes has the chunks of its natives.
+fn encodes_as_it_is_cut<R: Threads + Sync>(
+    rt: &R,
+    alloc: Global,
+    width: u8,
+    len: u32,
+) -> Result<bool, Fail>
+    requires wide { 4 ≤ width }
+    requires narrow { width ≤ 10 }
+{
+    let file = file_of(alloc, len)?;
+    let code = striped(width);
+    let natives = cut(alloc, &file, width)?;
+    let wanted = encode(rt, alloc, &natives, &code, 1, &Open)?;
+    let chunks = encode_file(rt, alloc, &file, &code, 2, &Open)?;
+    if chunks.items().len() != wanted.items().len() {
+        return Ok(false);
+    }
+    for (chunk, want) in chunks.items().iter().zip(wanted.items()) {
+        if chunk.bytes() != want.bytes() {
+            return Ok(false);
+        }
+    }
+    Ok(true)
+}
+
+#[test]
+fn a_file_has_the_chunks_of_its_natives(rt: HostRuntime) -> Result<(), Fail> {
+    for len in [0u32, 1, 8, 100_003] {
+        assert!(rt;
+            encodes_as_it_is_cut(&rt, rt.alloc(), 4, len)?,
+            "{len} bytes"
+        );
+        assert!(rt;
+            encodes_as_it_is_cut(&rt, rt.alloc(), 10, len)?,
+            "{len} bytes"
+        );
     }
     Ok(())
 }
