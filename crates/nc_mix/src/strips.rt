@@ -11,12 +11,12 @@ use std::alloc::Global;
 use std::thread;
 use std::thread::Threads;
 
-// At most so many bytes of each mix are made at once, so that the bytes of the sources stay in
-// the nearest caches from row to row.
-const PART: usize = 32768;
+// The bytes of a strip, few enough that they and those of the sources stay in the nearest caches
+// from row to row.
+const STRIP: usize = 262_144;
 
-// So many parts are made by a worker before its threads are joined.
-const EACH: usize = 8;
+// So many strips are made by a worker before its threads are joined.
+const EACH: usize = 4;
 
 /// What a worker makes at once: a part of each row's mix, one after another.
 #[derive(Drop)]
@@ -68,10 +68,19 @@ pub fn mix_block<R: Threads + Sync, G: Gate + Sync>(
     ensures on { IfOk result (λ end. at < end) }
     ensures within { IfOk result (λ end. end ≤ size) }
 {
-    let part = (size - at).div_ceil(strips.len()).min(PART);
+    let part = (size - at)
+        .div_ceil(strips.len())
+        .min(longest_part(rows.len()));
     let end = plan(strips, rows.len(), size, at, part)?;
     mix_strips(rt, strips, sources, rows, size, workers, gate);
     Ok(end)
+}
+
+/// How many bytes of each of so many mixes a strip has at most.
+fn longest_part(rows: usize) -> usize
+    ensures { 0 < result }
+{
+    (STRIP / rows.max(1)).max(1)
 }
 
 /// Gives each strip the next part, and room for it. Tells where the last part ends.

@@ -1,14 +1,8 @@
 ghost use Rattle.std.specs.Prelude.{◌≡◌, [], IfOk};
 ghost use Rattle.nc_mix.specs.Sums.{Extends, kept};
 
-use nc_name::{Blob, Memory};
+use nc_name::{BEHIND, Blob, FRONT, Memory};
 use std::alloc::Global;
-
-// A seal puts a frame around the bytes without a copy: so much room stays in front of them,
-const FRONT: usize = 256;
-
-// and so much behind them.
-const BEHIND: usize = 32;
 
 /// The bytes of a mix so far.
 #[derive(Drop)]
@@ -19,7 +13,7 @@ pub struct Sum {
 }
 
 impl Sum {
-    /// No bytes, and room for so many.
+    /// No bytes, and room for so many and a frame around them.
     pub fn with_room(alloc: Global, size: usize) -> Result<Sum, Memory>
         ensures { IfOk result (λ sum. sum ≡ kept []) }
     {
