@@ -19,7 +19,7 @@ mod writing;
 pub use fault::WriteFault;
 pub use live::told_plans;
 pub use marks::mark_of;
-pub use preparing::{combined, prepare};
+pub use preparing::prepare;
 pub use putting::put;
 pub use removing::remove;
 pub use rows::Rows;

@@ -1,6 +1,5 @@
 //! All writes of a put, made before the first of them.
 ghost use Rattle.std.specs.Prelude.{◌≡◌, ◌≤◌, ◌+◌, ◌*◌, ◌^◌, ℕ, List, IfOk, length};
-ghost use Rattle.nc_mix.specs.Mixing.{AreChunksOf};
 ghost use Rattle.nc_meta.specs.Parts.{IsGeneration};
 ghost use Rattle.nc_state.specs.Holding.{top_generation};
 ghost use Rattle.nc_write.specs.Putting.{IsPutOf};
@@ -10,11 +9,9 @@ use crate::marks::marks_of;
 use crate::rows::by_row;
 use crate::sealing::{VersionWrites, seal_version};
 use nc_bytes::told_bytes;
-use nc_code::Code;
 use nc_meta::Meta;
-use nc_mix::{Chunks, Open, encode};
+use nc_mix::{Open, encode_file};
 use nc_name::{Memory, Name};
-use nc_native::cut;
 use nc_nextloss::GoodCode;
 use std::alloc::Global;
 use std::thread::Threads;
@@ -40,26 +37,10 @@ pub fn prepare<R: Threads + Sync>(
 {
     told_bytes(bytes);
     let width = good.code().width();
-    let chunks = combined(rt, alloc, good.code(), workers, bytes)?;
+    let chunks = encode_file(rt, alloc, bytes, good.code(), workers, &Open)?;
     let marks = marks_of(rt, chunks.items(), workers);
     let live = put_live(top, generation, bytes.len() as u64, good, &marks);
     let rows = by_row(alloc, width, chunks)?;
     let writes = seal_version(rt, alloc, width, name, &live, rows, workers)?;
     Ok(writes)
-}
-
-/// Cuts the file and combines it by this code.
-pub fn combined<R: Threads + Sync>(
-    rt: &R,
-    alloc: Global,
-    code: &Code,
-    workers: u8,
-    bytes: &[u8],
-) -> Result<Chunks, Memory>
-    requires some_workers { 1 ≤ workers }
-    requires few_workers { workers ≤ 16 }
-    ensures { IfOk result (AreChunksOf code.now bytes.now) }
-{
-    let natives = cut(alloc, bytes, code.width())?;
-    encode(rt, alloc, &natives, code, workers, &Open)
 }

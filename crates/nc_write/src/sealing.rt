@@ -82,7 +82,7 @@ pub fn metas_for(alloc: Global, width: u8, name: &Name, meta: &Meta) -> Result<V
     Ok(jobs)
 }
 
-/// Seals chunks as those of a version, up to so many at once. Each is let go as soon as its frame is made.
+/// Seals chunks as those of a version, up to so many at once. A frame is made around its chunk, where that has room for it.
 pub fn seal_rows<R: Threads + Sync>(
     rt: &R,
     alloc: Global,

@@ -10,7 +10,7 @@ ghost use Rattle.nc_write.specs.Writes.{chunk_key as chunk_key_of};
 use crate::rows::Rows;
 use crate::sealing::{Placed, RowWrites};
 use nc_cloud::{Done, Job};
-use nc_frame::seal;
+use nc_frame::seal_around;
 use nc_meta::Live;
 use nc_name::{Blob, Key, Memory, Name};
 use nc_settle::push_job;
@@ -128,21 +128,21 @@ pub fn seal_all<R: Threads + Sync>(
     );
 }
 
-/// Seals the chunk in a seat, and lets it go.
+/// Seals the chunk in a seat, which is left empty.
 fn seal_seat(alloc: Global, width: u8, seat: &mut Seat)
     requires { Slots seat.old.key }
     ensures { SealsSeat width seat.old seat.new }
 {
     let chunk = mem::replace(&mut seat.chunk, Blob::from_vec(Vec::new(alloc)));
-    seat.frame = framed(alloc, seat.cloud, width, &seat.key, &chunk);
+    seat.frame = framed(alloc, seat.cloud, width, &seat.key, chunk);
 }
 
-/// The frame of a chunk, where memory is found for it.
-fn framed(alloc: Global, cloud: u8, width: u8, key: &Key, chunk: &Blob) -> Option<Blob>
+/// The frame of a chunk, where memory is found for it. It is made around a chunk that has room for it.
+fn framed(alloc: Global, cloud: u8, width: u8, key: &Key, chunk: Blob) -> Option<Blob>
     requires { Slots key.now }
-    ensures { IfSome result (λ bytes. Sealed bytes cloud width (key_text key.now) chunk.now) }
+    ensures { IfSome result (λ bytes. Sealed bytes cloud width (key_text key.now) chunk) }
 {
-    match seal(alloc, cloud, width, key, chunk.bytes()) {
+    match seal_around(alloc, cloud, width, key, chunk) {
         Ok(bytes) => Some(bytes),
         Err(_) => None,
     }

@@ -21,7 +21,7 @@ returns g c =
     let chunks : List (List ℕ) = c.in_ok-chunks.chunks in
     let width : c.width-width.result ≡ n = c.width-width.ensures.width ∙ ap (λ (k : CodeParts). k.width) c.code.ensures.code in
     let narrow = c.width-width.ensures.kept.narrow in
-    let are : AreChunksOf good.code c.args.bytes.now chunks = subst (λ (k : CodeParts). AreChunksOf k c.args.bytes.now chunks) c.code-2.ensures.code c.in_ok-chunks.ensures in
+    let are : AreChunksOf good.code c.args.bytes.now chunks = subst (λ (k : CodeParts). AreChunksOf k c.args.bytes.now chunks) c.code-2.ensures.code c.in_ok-chunks.ensures.of_file in
     let marks : AreMarks chunks c.marks_of-marks.result = subst (λ l. AreMarks l c.marks_of-marks.result) c.items.ensures c.marks_of-marks.ensures.marks in
     prepared c.args.name.now c.args.top.now good c.args.bytes.now (omega (arith, narrow, c.width-width.ensures.width, width)) c.told_bytes.ensures c.code.ensures.kept
     chunks c.marks_of-marks.result are marks c.put_live-live.result c.in_ok-rows.rows.zeros.items c.in_ok-rows.rows.ones.items c.in_ok-writes.writes
