@@ -9,9 +9,9 @@ ghost use Rattle.nc_restore.specs.Restoring.{AreRestoreWrites, CanBeWritten, by_
 use nc_cloud::{Fleet, RoundFault, write_row};
 use nc_fetch::is_named;
 use nc_meta::Live;
-use nc_mix::Chunks;
+use nc_mix::{Chunks, Open, encode_file};
 use nc_name::{Blob, Memory, Name};
-use nc_write::{Placed, RowWrites, Rows, combined, seal_rows};
+use nc_write::{Placed, RowWrites, Rows, seal_rows};
 use std::alloc::Global;
 use std::thread::Threads;
 
@@ -35,7 +35,7 @@ pub(crate) fn make_anew<R: Threads + Sync>(
     ensures { IfOk result
         (AreRestoreWrites width name.now live.now (by_row zeros.now ones.now) file.now) }
 {
-    let chunks = combined(rt, alloc, &live.code, workers, file)?;
+    let chunks = encode_file(rt, alloc, file, &live.code, workers, &Open)?;
     let chosen = chosen_rows(alloc, width, chunks, zeros, ones)?;
     let writes = seal_rows(rt, alloc, width, name, live, chosen, workers)?;
     Ok(writes)
