@@ -2,7 +2,6 @@
 use Rattle.std.proofs.Common.{◌≡◌, ◌≢◌, ◌+◌, ◌<◌, ℕ, Some, Option, List, length, true, refl, sym, ap, ◌∙◌, subst, arith, inl, inr}
 use Rattle.std.specs.Borrow.{Bor}
 use Rattle.sha2.specs.Sha256.{sha256}
-use Rattle.nc_bytes.specs.Bytes.{AreBytes, part}
 use Rattle.nc_name.specs.Keys.{key_text}
 use Rattle.nc_cloud.specs.declared.fleet.Answer.{Answer}
 use Rattle.nc_cloud.specs.declared.fleet.Answer.TheVariants as answer
@@ -11,10 +10,11 @@ use Rattle.nc_frame.specs.Frames.{Sealed}
 use Rattle.nc_frame.specs.Opening.{Opens}
 use Rattle.nc_frame.specs.declared.opening.Seen.{Seen}
 use Rattle.nc_frame.specs.declared.opening.Seen.TheVariants.{Payload, Misplaced, Broken}
-use Rattle.nc_frame.proofs.Shapes.{same_parts, sealed_of, shape_of, length-frame}
+use Rattle.nc_frame.proofs.Shapes.{same_parts}
 use Rattle.nc_download.specs.declared.judging.Wanted.{Wanted}
 use Rattle.nc_download.specs.Chunks.{frame_len, IsBrokenChunk, IsGoodChunk, IsInner, IsMarkedChunk}
 use Rattle.nc_cloud.specs.Deciding.{IsSeen}
+use Rattle.nc_download.proofs.InnerLaws.{inner_is, sealed_long}
 
 -- bytes that are no frame of here are broken
 pub not_here : (w : Wanted) (bytes : List ℕ) (seen : Seen) → Opens bytes w.cloud w.width (key_text w.key) seen → ((p : Bor (List ℕ)) → seen ≡ Payload p → ⊥) → IsBrokenChunk w (Some bytes)
@@ -43,7 +43,7 @@ wrong_length w bytes payload here other = record {
 -- more bytes than the frame has are not its frame
 too_long : (w : Wanted) (bytes payload : List ℕ) → 48 + length (key_text w.key) + w.size < length bytes → Sealed bytes w.cloud w.width (key_text w.key) payload → length payload ≢ w.size
 too_long w bytes payload more is long =
-    let total : length bytes ≡ 48 + length (key_text w.key) + length payload = ap length is.is_frame ∙ length-frame w.cloud w.width (key_text w.key) payload in
+    let total : length bytes ≡ 48 + length (key_text w.key) + length payload = sealed_long w bytes payload is in
     absurd (omega arith)
 
 pub long_broken : (w : Wanted) (a : Answer) → IsSeen a ≡ true → ((bytes : List ℕ) → a ≡ answer.Bytes bytes → ⊥) → (a ≡ answer.Absent → ⊥) → (held : Option (List ℕ)) → Shows a (frame_len w) held → IsBrokenChunk w held
@@ -60,36 +60,24 @@ pub opened : (w : Wanted) (bytes : List ℕ) (seen : Seen) (p : Bor (List ℕ)) 
     → Sealed bytes w.cloud w.width (key_text w.key) p.now
 opened w bytes seen p opens is = subst (λ (s : Seen). Opens bytes w.cloud w.width (key_text w.key) s) is opens
 
--- what stands in the payload's place of a frame is its payload
-inner_is : (w : Wanted) (bytes inner payload : List ℕ) → AreBytes bytes → IsInner w bytes inner → Sealed bytes w.cloud w.width (key_text w.key) payload → payload ≡ inner
-inner_is w bytes inner payload are is here =
-    let shape = shape_of bytes w.cloud w.width (key_text w.key) payload here.is_frame in
-    let size : length payload ≡ w.size = omega (arith, shape.total, is.total) in
-    let there = sealed_of bytes (length (key_text w.key)) (length payload) are here.fits.key_fits here.fits.payload_fits shape in
-    let at = (same_parts bytes _ _ _ _ _ _ _ _ here there).payload in
-    at ∙ ap (λ n. part (16 + length (key_text w.key)) n bytes) size ∙ sym is.at
-
--- it has the length that the metadata tells
-pub inner_long : (w : Wanted) (bytes inner payload : List ℕ) → AreBytes bytes → IsInner w bytes inner → Sealed bytes w.cloud w.width (key_text w.key) payload → length inner ≡ w.size
-inner_long w bytes inner payload are is here =
-    let shape = shape_of bytes w.cloud w.width (key_text w.key) payload here.is_frame in
-    let same = ap length (inner_is w bytes inner payload are is here) in
-    omega (arith, shape.total, is.total, same)
+-- what stands in the payload's place of a frame has the length that the metadata tells
+pub inner_long : (w : Wanted) (bytes inner payload : List ℕ) → IsInner w bytes inner → Sealed bytes w.cloud w.width (key_text w.key) payload → length inner ≡ w.size
+inner_long w bytes inner payload is here = omega (arith, sealed_long w bytes payload here, is.total, ap length (inner_is w bytes inner payload is here))
 
 -- so it is good where its digest is the mark
-pub inner_good : (w : Wanted) (bytes inner payload : List ℕ) → AreBytes bytes → IsInner w bytes inner → Sealed bytes w.cloud w.width (key_text w.key) payload → sha256 inner ≡ w.mark → IsGoodChunk w (Some bytes) inner
-inner_good w bytes inner payload are is here marked = record {
-  holds = subst (λ (p : List ℕ). Sealed bytes w.cloud w.width (key_text w.key) p) (inner_is w bytes inner payload are is here) here;
-  long = inner_long w bytes inner payload are is here;
+pub inner_good : (w : Wanted) (bytes inner payload : List ℕ) → IsInner w bytes inner → Sealed bytes w.cloud w.width (key_text w.key) payload → sha256 inner ≡ w.mark → IsGoodChunk w (Some bytes) inner
+inner_good w bytes inner payload is here marked = record {
+  holds = subst (λ (p : List ℕ). Sealed bytes w.cloud w.width (key_text w.key) p) (sym (inner_is w bytes inner payload is here)) here;
+  long = inner_long w bytes inner payload is here;
   marked = marked;
 }
 
 -- and marked otherwise where it isn't
-pub inner_other : (w : Wanted) (bytes inner payload : List ℕ) → AreBytes bytes → IsInner w bytes inner → Sealed bytes w.cloud w.width (key_text w.key) payload → sha256 inner ≢ w.mark → IsMarkedChunk w (Some bytes)
-inner_other w bytes inner payload are is here other = record {
+pub inner_other : (w : Wanted) (bytes inner payload : List ℕ) → IsInner w bytes inner → Sealed bytes w.cloud w.width (key_text w.key) payload → sha256 inner ≢ w.mark → IsMarkedChunk w (Some bytes)
+inner_other w bytes inner payload is here other = record {
   payload = inner;
-  holds = subst (λ (p : List ℕ). Sealed bytes w.cloud w.width (key_text w.key) p) (inner_is w bytes inner payload are is here) here;
-  long = inner_long w bytes inner payload are is here;
+  holds = subst (λ (p : List ℕ). Sealed bytes w.cloud w.width (key_text w.key) p) (sym (inner_is w bytes inner payload is here)) here;
+  long = inner_long w bytes inner payload is here;
   other = other;
 }
 
@@ -97,7 +85,5 @@ inner_other w bytes inner payload are is here other = record {
 pub other_length : (w : Wanted) (bytes : List ℕ) → length bytes ≢ frame_len w → IsBrokenChunk w (Some bytes)
 other_length w bytes other = record {
   there = refl;
-  no_payload = λ payload here long.
-      let shape = shape_of bytes w.cloud w.width (key_text w.key) payload here.is_frame in
-      other (omega (arith, shape.total, long));
+  no_payload = λ payload here long. other (omega (arith, sealed_long w bytes payload here, long));
 }

@@ -1,3 +1,4 @@
+pub mod InnerLaws
 pub mod Judged
 pub mod ChunkLaws
 pub mod ViewLaws

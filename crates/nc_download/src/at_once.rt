@@ -1,16 +1,16 @@
 //! A chunk judged with both of its digests computed at the same time.
-ghost use Rattle.std.specs.Prelude.{◌≡◌, ◌≢◌, ◌≤◌, ◌+◌, ◌-◌, Option, Some, List, ℕ, IfOk, IfSome, IfNone, OnOk, length, true};
+ghost use Rattle.std.specs.Prelude.{◌≡◌, Option, Some, List, ℕ, IfOk, OnOk, length, true};
 ghost use Rattle.sha2.specs.Sha256.{sha256};
-ghost use Rattle.nc_bytes.specs.Bytes.{AreBytes};
 ghost use Rattle.nc_name.specs.Keys.{Slots, key_text};
 ghost use Rattle.nc_cloud.specs.Fleet.{is_bytes, Shows};
 ghost use Rattle.nc_frame.specs.Opening.{Opens};
 ghost use Rattle.nc_download.specs.Chunks.{frame_len, IsInner, IsJudged};
 ghost use Rattle.nc_cloud.specs.Deciding.{IsSeen};
 
-use crate::judging::{Wanted, judge};
+use crate::inner::inner_of;
+use crate::judging::{Wanted, judge, judge_bytes};
 use crate::short::How;
-use nc_bytes::{is_same, part_of, told_bytes};
+use nc_bytes::is_same;
 use nc_cloud::Answer;
 use nc_frame::{Seen, open};
 use sha2::{Digest, Sha256};
@@ -32,22 +32,35 @@ pub fn judge_by<'a, R: Threads>(
     ensures long { IfOk result (λ payload. length payload.now ≡ wanted.now.size) }
     ensures given { OnOk result (is_bytes answer.now ≡ true) }
 {
-    if workers < 2 {
-        return judge(wanted, answer);
-    }
     match answer {
-        Answer::Bytes(blob) => judge_bytes(rt, wanted, blob.bytes()),
+        Answer::Bytes(blob) => judge_frame(rt, wanted, blob.bytes(), workers),
         _ => judge(wanted, answer),
     }
 }
 
-/// The payload of the chunk, where these bytes are its frame; else what is wrong.
-fn judge_bytes<'a, R: Threads>(rt: &R, wanted: &Wanted, bytes: &'a [u8]) -> Result<&'a [u8], How>
+/// As `judge_by`, of bytes that a cloud gave, however many they are.
+pub fn judge_frame<'a, R: Threads>(
+    rt: &R,
+    wanted: &Wanted,
+    bytes: &'a [u8],
+    workers: u8,
+) -> Result<&'a [u8], How>
     requires slots { Slots wanted.now.key }
     ensures verdict { IsJudged wanted.now (Some bytes.now) result }
     ensures long { IfOk result (λ payload. length payload.now ≡ wanted.now.size) }
 {
-    told_bytes(bytes);
+    if workers < 2 {
+        return judge_bytes(wanted, bytes);
+    }
+    judge_at_once(rt, wanted, bytes)
+}
+
+/// As `judge_bytes`, with both digests computed at the same time.
+fn judge_at_once<'a, R: Threads>(rt: &R, wanted: &Wanted, bytes: &'a [u8]) -> Result<&'a [u8], How>
+    requires slots { Slots wanted.now.key }
+    ensures verdict { IsJudged wanted.now (Some bytes.now) result }
+    ensures long { IfOk result (λ payload. length payload.now ≡ wanted.now.size) }
+{
     let Some(inner) = inner_of(wanted, bytes) else {
         return Err(How::Broken);
     };
@@ -69,7 +82,6 @@ fn verdict<'a>(
     seen: Seen<'_>,
     digest: &[u8; 32],
 ) -> Result<&'a [u8], How>
-    requires bytes { AreBytes bytes.now }
     requires inner { IsInner wanted.now bytes.now inner.now }
     requires opens { Opens bytes.now wanted.now.cloud wanted.now.width (key_text wanted.now.key) seen }
     requires digest { digest.now ≡ sha256 inner.now }
@@ -84,21 +96,4 @@ fn verdict<'a>(
     } else {
         Err(How::Marked)
     }
-}
-
-/// What stands in the payload's place, where the bytes are as many as the chunk's frame has.
-fn inner_of<'a>(wanted: &Wanted, bytes: &'a [u8]) -> Option<&'a [u8]>
-    requires slots { Slots wanted.now.key }
-    ensures some { IfSome result (λ inner. IsInner wanted.now bytes.now inner.now) }
-    ensures none { IfNone result (length bytes.now ≢ frame_len wanted.now) }
-{
-    let key_len = wanted.key.text().as_str().len();
-    if bytes.len() < 48 + key_len {
-        return None;
-    }
-    let len = bytes.len() - 48 - key_len;
-    if len as u64 != wanted.size {
-        return None;
-    }
-    Some(part_of(bytes, 16 + key_len, len))
 }

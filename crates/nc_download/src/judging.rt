@@ -43,7 +43,7 @@ pub fn judge<'a>(wanted: &Wanted, answer: &'a Answer) -> Result<&'a [u8], How>
 }
 
 /// The payload of the chunk, where these bytes are its frame; else what is wrong.
-fn judge_bytes<'a>(wanted: &Wanted, bytes: &'a [u8]) -> Result<&'a [u8], How>
+pub(crate) fn judge_bytes<'a>(wanted: &Wanted, bytes: &'a [u8]) -> Result<&'a [u8], How>
     requires slots { Slots wanted.now.key }
     ensures verdict { IsJudged wanted.now (Some bytes.now) result }
     ensures long { IfOk result (λ payload. length payload.now ≡ wanted.now.size) }

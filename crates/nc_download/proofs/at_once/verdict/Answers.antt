@@ -11,11 +11,11 @@ returns-in_default c = record { verdict = not_here _ _ _ c.requires.opens c.in_d
 
 pub returns-then-is_same-clause-verdict : goal.returns-then-is_same-clause-verdict
 returns-then-is_same-clause-verdict c =
-    inner_good _ _ _ _ c.requires.bytes c.requires.inner (opened c.args.wanted.now _ _ _ c.requires.opens c.in-Payload.is) (sym c.requires.digest ∙ c.if-is_same.ensures.0 refl)
+    inner_good _ _ _ _ c.requires.inner (opened c.args.wanted.now _ _ _ c.requires.opens c.in-Payload.is) (sym c.requires.digest ∙ c.if-is_same.ensures.0 refl)
 
 pub returns-then-is_same-clause-long : goal.returns-then-is_same-clause-long
-returns-then-is_same-clause-long c = inner_long c.args.wanted.now _ _ _ c.requires.bytes c.requires.inner (opened c.args.wanted.now _ _ _ c.requires.opens c.in-Payload.is)
+returns-then-is_same-clause-long c = inner_long c.args.wanted.now _ _ _ c.requires.inner (opened c.args.wanted.now _ _ _ c.requires.opens c.in-Payload.is)
 
 pub returns-else-is_same-clause-verdict : goal.returns-else-is_same-clause-verdict
 returns-else-is_same-clause-verdict c =
-    inner_other _ _ _ _ c.requires.bytes c.requires.inner (opened c.args.wanted.now _ _ _ c.requires.opens c.in-Payload.is) (λ e. false_is_not (c.if-is_same.ensures.1 (c.requires.digest ∙ e)))
+    inner_other _ _ _ _ c.requires.inner (opened c.args.wanted.now _ _ _ c.requires.opens c.in-Payload.is) (λ e. false_is_not (c.if-is_same.ensures.1 (c.requires.digest ∙ e)))
