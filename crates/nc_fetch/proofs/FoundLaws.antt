@@ -1,5 +1,5 @@
 -- What the entries of a round give, one after the other.
-use Rattle.std.proofs.Common.{◌≡◌, ◌≢◌, ◌+◌, ◌-◌, ◌++◌, ◌∷◌, ℕ, Bool, true, false, List, [], map, length, take, drop, Contains, Ok, Err, IfOk, OnOk, Result, refl, sym, ap, ◌∙◌, subst, arith}
+use Rattle.std.proofs.Common.{◌≡◌, ◌≢◌, ◌+◌, ◌-◌, ◌++◌, ◌∷◌, ℕ, Bool, true, false, List, [], map, length, take, drop, Contains, Ok, Err, Some, Option, IfOk, OnOk, Result, refl, sym, ap, ◌∙◌, subst, arith}
 use Rattle.std.proofs.lemmas.List.{length-map}
 use Rattle.std.proofs.lemmas.List.Elements.{All-contains_itself}
 use Rattle.nc_cloud.specs.declared.fleet.Answer.{Answer}
@@ -13,13 +13,28 @@ use Rattle.nc_state.specs.Clouds.{Clouds}
 use Rattle.nc_download.specs.declared.judging.Wanted.{Wanted}
 use Rattle.nc_fetch.specs.declared.founds.Found.{Found}
 use Rattle.nc_fetch.specs.declared.founds.Found.TheVariants.{Unasked}
-use Rattle.nc_download.specs.Chunks.{chunk_ask, wanted_of}
-use Rattle.nc_fetch.specs.Founds.{chunk_ask_on, AreFound, AreLeft, FoundFrom, FoundOn}
+use Rattle.nc_download.specs.Chunks.{chunk_ask, wanted_of, IsGoodChunk, IsInner}
+use Rattle.nc_download.specs.declared.short.How.TheVariants.{Broken}
+use Rattle.nc_download.proofs.InnerLaws.{good_inner}
+use Rattle.nc_download.proofs.Judged.{long_broken}
+use Rattle.nc_fetch.specs.Founds.{chunk_ask_on, AreFound, AreLeft, FoundFrom, FoundOn, GivesBad, GivesGood}
 use Rattle.nc_fetch.proofs.Growing.{push_more}
 
 -- an answer that says something isn't that of a cloud that failed
 pub seen_answered : (a : Answer) → IsSeen a ≡ true → a ≢ answer.Failed
 seen_answered a seen e = let no : false ≡ true = sym (ap IsSeen e) ∙ seen in cc
+
+-- a good chunk's frame gives what stands in the payload's place
+pub gives_inner : (w : Wanted) (frame payload inner : List ℕ) → IsGoodChunk w (Some frame) payload → IsInner w frame inner → GivesGood w (answer.Bytes frame) inner
+gives_inner w frame payload inner is place =
+    let good : IsGoodChunk w (Some frame) inner = subst (IsGoodChunk w (Some frame)) (sym (good_inner w frame inner payload is place)) is in
+    record { verdict = λ held shows. subst (λ (h : Option (List ℕ)). IsGoodChunk w h inner) (sym shows.0) good; long = good.long; given = refl }
+
+-- an object that is longer than a chunk's frame isn't good
+pub gives_long : (w : Wanted) (a : Answer) → a ≡ answer.Long → GivesBad w a Broken
+gives_long w a is =
+    let long : GivesBad w answer.Long Broken = record { verdict = long_broken w answer.Long refl (λ bytes e. cc) (λ e. cc); answered = λ e. cc } in
+    subst (λ (x : Answer). GivesBad w x Broken) (sym is) long
 
 back : {X : Type 0} (new old : List X) → length new ≡ length old → take (length old) (new ++ drop (length new) old) ≡ new
 back [] [] e = refl

@@ -9,8 +9,8 @@ use nc_download::{Wanted, wanted};
 use nc_meta::Live;
 use nc_name::{Memory, Name};
 use std::alloc::Global;
-use std::thread;
 use std::thread::Threads;
+use std::{mem, thread};
 
 /// An answer of a round beside a place for what it gives of its chunk.
 #[derive(Debug, Drop)]
@@ -27,7 +27,8 @@ pub struct Seat {
 
 /// What the answers of a round give of the chunks that were asked for, in order; `rows` has the row
 /// of each cloud's chunk. They are judged at once, by up to so many workers; one begins no thread.
-/// Each answer is let go as soon as its payload is copied.
+/// A good chunk's payload stays where it stands in its answer, and takes no memory besides. All other
+/// answers are let go.
 pub fn judge_all<R: Threads + Sync>(
     rt: &R,
     alloc: Global,
@@ -49,7 +50,7 @@ pub fn judge_all<R: Threads + Sync>(
         seats.items) }
 {
     let seats = seated(alloc, width, name, live, rows, asks)?;
-    Ok(judged(rt, alloc, seats, workers))
+    Ok(judged(rt, seats, workers))
 }
 
 /// A seat for each entry.
@@ -104,17 +105,17 @@ fn row_of(rows: &[u8; 10], cloud: u8) -> u8
 }
 
 /// The same seats, judged.
-fn judged<R: Threads + Sync>(rt: &R, alloc: Global, mut seats: Vec<Seat>, workers: u8) -> Vec<Seat>
+fn judged<R: Threads + Sync>(rt: &R, mut seats: Vec<Seat>, workers: u8) -> Vec<Seat>
     requires slots { All (λ s. Slots s.wanted.key) seats.items }
     requires some_worker { 1 ≤ workers }
     ensures { AllJudged seats.items result.items }
 {
-    judge_seats(rt, alloc, &mut seats, workers);
+    judge_seats(rt, &mut seats, workers);
     seats
 }
 
 /// Judges all seats at once, by up to so many workers.
-fn judge_seats<R: Threads + Sync>(rt: &R, alloc: Global, seats: &mut [Seat], workers: u8)
+fn judge_seats<R: Threads + Sync>(rt: &R, seats: &mut [Seat], workers: u8)
     requires slots { All (λ s. Slots s.wanted.key) seats.old }
     requires some_worker { 1 ≤ workers }
     ensures { AllJudged seats.old seats.new }
@@ -124,7 +125,7 @@ fn judge_seats<R: Threads + Sync>(rt: &R, alloc: Global, seats: &mut [Seat], wor
         rt,
         seats,
         usize::from(workers),
-        &|_, seat| judge_seat(rt, alloc, seat, share),
+        &|_, seat| judge_seat(rt, seat, share),
     );
 }
 
@@ -137,11 +138,11 @@ fn share_of(workers: u8, seats: usize) -> u8 {
     }
 }
 
-/// Judges the answer of a seat, and lets it go.
-fn judge_seat<R: Threads>(rt: &R, alloc: Global, seat: &mut Seat, workers: u8)
+/// Judges the answer of a seat, of which nothing stays but a good chunk's payload.
+fn judge_seat<R: Threads>(rt: &R, seat: &mut Seat, workers: u8)
     requires { Slots seat.old.wanted.key }
     ensures { IsJudgedSeat seat.old seat.new }
 {
-    seat.found = judge_answer(rt, alloc, &seat.wanted, seat.row, &seat.answer, workers);
-    seat.answer = Answer::Waiting;
+    let answer = mem::replace(&mut seat.answer, Answer::Waiting);
+    seat.found = judge_answer(rt, &seat.wanted, seat.row, answer, workers);
 }
