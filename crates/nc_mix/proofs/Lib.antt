@@ -1,6 +1,7 @@
 pub mod Mixes
 pub mod Parts
 pub mod Extended
+pub mod Groups
 pub mod SideBySide
 pub mod Missing
 pub mod Solving

@@ -1,37 +1,19 @@
 -- How sums that lie side by side are filled with the parts that strips hold.
-use Rattle.std.proofs.Common.{◌≡◌, ℕ, zero, suc, ◌+◌, ◌-◌, ◌*◌, ◌<◌, ◌≤◌, List, [], ◌∷◌, ◌++◌}
-use Rattle.std.proofs.Common.{length, take, drop, All, refl, sym, ◌∙◌, ap, subst, arith}
-use Rattle.std.proofs.lemmas.List.{append_assoc, take_at, drop_at, take_all, drop_all}
-use Rattle.std.proofs.lemmas.List.{take-append-drop}
+use Rattle.std.proofs.Common.{◌≡◌, ℕ, suc, ◌+◌, ◌-◌, ◌*◌, ◌<◌, ◌≤◌, List, [], ◌∷◌, ◌++◌}
+use Rattle.std.proofs.Common.{length, get_or, take, drop, All, refl, sym, ◌∙◌, ap, subst, arith}
+use Rattle.std.proofs.lemmas.List.{append_assoc, length-drop, length-take-le, nil_from_length}
+use Rattle.std.proofs.lemmas.List.{take-append-drop, take_at, take-take}
+use Rattle.std.proofs.lemmas.Nat.{row_fits}
 use Rattle.std.proofs.lemmas.Grind.{common_steps}
-use Rattle.std.specs.List.{concat}
+use Rattle.nc_bytes.specs.Bytes.{part}
 use Rattle.nc_mix.specs.declared.strips.Strip.{Strip}
-use Rattle.nc_mix.specs.Mixing.{mixed, mixed_part, mixed_parts}
+use Rattle.nc_mix.specs.Mixing.{mixed, mixed_part}
 use Rattle.nc_mix.specs.Decoding.{solved}
-use Rattle.nc_mix.specs.Strips.{Follow, HasRoom, IsMixed, put_at, placed, all_placed, AreBegun}
+use Rattle.nc_mix.specs.Strips.{Follow, HasRoom, IsMixed, part_in}
+use Rattle.nc_mix.specs.Placing.{ArePlaced, AreBegun, placed, put_at}
 use Rattle.nc_mix.proofs.Mixes.{length-part}
-use Rattle.nc_mix.proofs.Parts.{whole_part, next_part, first_part, later_parts}
-
--- the first sum gets its part, and then the others
-pub place_more : (rows size start count : ℕ)
-    (parts part after sums sum others first rest : List ℕ) → 0 < rows → sum ≡ take size sums → others ≡ drop size sums →
-    part ≡ take count parts → after ≡ drop count parts →
-    first ≡ put_at start part sum → rest ≡ placed (rows - 1) size start count after others →
-    first ++ rest ≡ placed rows size start count parts sums
-place_more zero size start count parts part after sums sum others first rest some a b c d put on =
-    absurd (omega arith)
-place_more (suc rows) size start count parts part after sums sum others first rest some a b c d put on =
-    let left : suc rows - 1 ≡ rows = omega arith in
-    let ahead : first ≡ put_at start (take count parts) (take size sums) =
-    put ∙ (λ i. put_at start (c i) (a i)) in
-    let behind : rest ≡ placed rows size start count (drop count parts) (drop size sums) =
-    on ∙ (λ i. placed (left i) size start count (d i) (b i)) in
-    λ i. ahead i ++ behind i
-
-pub place_none : (rows size start count : ℕ) (parts sums : List ℕ) → rows ≤ 0 →
-    sums ≡ placed rows size start count parts sums
-place_none zero size start count parts sums none = refl
-place_none (suc rows) size start count parts sums none = absurd (omega arith)
+use Rattle.nc_mix.proofs.Parts.{whole_part, next_part, part_is}
+use Rattle.nc_mix.proofs.Groups.{part_past}
 
 length-put : (at : ℕ) (part sum : List ℕ) → at + length part ≤ length sum →
     length (put_at at part sum) ≡ length sum
@@ -40,25 +22,35 @@ length-put at part sum fits = grind (arith, common_steps)
 module _ (size : ℕ) (sources : List (List ℕ)) where
   -- no byte is made of any mix
   pub none_begun : (rows : List (List ℕ)) (sums : List ℕ) → length sums ≡ length rows * size →
-      AreBegun size 0 sources rows sums
+      AreBegun size 0 rows sources sums
   unfolding mixed_part
-  none_begun [] sums long = drop_all 0 sums (omega arith)
-  none_begun (row ∷ rows) sums long = (
-    grind (arith, common_steps),
-    refl,
-    none_begun rows (drop size sums) (grind (arith, common_steps)),
-  )
+  none_begun rows sums long = record { long = long; each = λ k h. refl }
 
   -- all bytes of all mixes stand
-  pub all_begun : (rows : List (List ℕ)) (sums : List ℕ) → AreBegun size size sources rows sums →
+  pub all_begun : (rows : List (List ℕ)) (sums : List ℕ) → AreBegun size size rows sources sums →
       sums ≡ solved size sources rows
-  all_begun [] sums begun = begun
+  all_begun [] sums begun =
+      let long : length sums ≡ 0 * size = begun.long in
+      nil_from_length sums (omega arith)
   all_begun (row ∷ rows) sums begun =
-      let long : length (take size sums) ≡ size = begun.0 in
+      let none : 0 * size ≡ 0 = omega arith in
+      let long : length sums ≡ suc (length rows) * size = begun.long in
+      let left : length (drop size sums) ≡ length sums - size = length-drop size sums in
       let first : take size sums ≡ mixed size row sources =
-      sym (take_all size (take size sums) (omega arith)) ∙ begun.1 ∙ whole_part size row sources in
+      sym (take-take size size sums (omega arith))
+      ∙ ap (λ p. take size (part p size sums)) (sym none)
+      ∙ begun.each 0 (omega arith)
+      ∙ whole_part size row sources in
+      let others : AreBegun size size rows sources (drop size sums) = record {
+        long = omega (arith, long, left);
+        each = λ k h.
+            let more : suc k * size ≡ size + k * size = omega arith in
+            ap (take size)
+            (sym (part_past size (k * size) size sums) ∙ ap (λ p. part p size sums) (sym more))
+            ∙ begun.each (suc k) (omega arith);
+      } in
       let rest : drop size sums ≡ solved size sources rows =
-      all_begun rows (drop size sums) begun.2 in
+      all_begun rows (drop size sums) others in
       sym (take-append-drop size sums) ∙ (λ i. first i ++ rest i)
 
   -- one part more stands in a sum
@@ -78,49 +70,51 @@ module _ (size : ℕ) (sources : List (List ℕ)) where
       ∙ take_at (front ++ next) rest (at + count) long
       ∙ joined
 
-  place_parts : (at count : ℕ) (rows : List (List ℕ)) (sums : List ℕ) → at + count ≤ size →
-      AreBegun size at sources rows sums →
-      AreBegun size (at + count) sources rows
-      (placed (length rows) size at count (concat (mixed_parts at count rows sources)) sums)
-  place_parts at count [] sums fits begun = begun
-  place_parts at count (row ∷ rows) sums fits begun =
-      let parts : List ℕ = concat (mixed_parts at count (row ∷ rows) sources) in
-      let part : List ℕ = take count parts in
-      let old : List ℕ = take size sums in
-      let sum : List ℕ = put_at at part old in
-      let rest : List ℕ → List ℕ = λ xs. placed (length rows) size at count xs (drop size sums) in
-      let part_is : part ≡ mixed_part at count row sources = first_part sources at count row rows in
-      let long_old : length old ≡ size = begun.0 in
-      let long_part : length part ≡ count = ap length part_is ∙ length-part at count row sources in
-      let long : length sum ≡ size = length-put at part old (omega arith) ∙ long_old in
-      let first : take size (sum ++ rest (drop count parts)) ≡ sum =
-      take_at sum (rest (drop count parts)) size long in
-      let next : AreBegun size (at + count) sources rows (rest (drop count parts)) =
-      subst (λ xs. AreBegun size (at + count) sources rows (rest xs))
-      (sym (later_parts sources at count row rows))
-      (place_parts at count rows (drop size sums) fits begun.2) in (
-        ap length first ∙ long,
-        ap (take (at + count)) first ∙ put_next at count row old part begun.1 part_is,
-        subst (AreBegun size (at + count) sources rows)
-            (sym (drop_at sum (rest (drop count parts)) size long)) next,
-      )
-
-  -- strips that follow one another carry the sums on
-  pub carried_over : (rows : List (List ℕ)) (at end : ℕ) (strips : List Strip) (sums : List ℕ) →
-      Follow at strips end → All (HasRoom (length rows) size) strips →
-      All (IsMixed rows sources) strips → AreBegun size at sources rows sums →
-      AreBegun size end sources rows (all_placed (length rows) size strips sums)
-  carried_over rows at end [] sums follow room each begun =
-      subst (λ k. AreBegun size k sources rows sums) follow begun
-  carried_over rows at end (strip ∷ strips) sums follow room each begun =
+  -- strips that follow one another carry a sum on
+  sum_on : (rows : List (List ℕ)) (k at end : ℕ) (strips : List Strip) (sum : List ℕ) →
+      k < length rows → length sum ≡ size → Follow at strips end →
+      All (HasRoom (length rows) size) strips → All (IsMixed rows sources) strips →
+      take at sum ≡ mixed_part 0 at (get_or rows k []) sources →
+      take end (placed k strips sum) ≡ mixed_part 0 end (get_or rows k []) sources
+  sum_on rows k at end [] sum h long follow room each begun =
+      subst (λ n. take n sum ≡ mixed_part 0 n (get_or rows k []) sources) follow begun
+  sum_on rows k at end (strip ∷ strips) sum h long follow room each begun =
+      let row : List ℕ = get_or rows k [] in
+      let own : List ℕ = part_in k strip in
+      let next : List ℕ = put_at strip.start own sum in
       let starts : strip.start ≡ at = follow.0 in
       let lies : HasRoom (length rows) size strip = room 0 strip (omega arith) in
-      let within : at + strip.count ≤ size = let fits = lies.fits in omega (arith, starts) in
-      let parts : strip.bytes.items ≡ concat (mixed_parts at strip.count rows sources) =
-      each 0 strip (omega arith)
-      ∙ ap (λ k. concat (mixed_parts k strip.count rows sources)) starts in
-      subst (λ xs. AreBegun size end sources rows (all_placed (length rows) size strips xs))
-      (λ i. placed (length rows) size (sym starts i) strip.count (sym parts i) sums)
-      (carried_over rows (at + strip.count) end strips _ follow.1
-      (λ k d h. room (suc k) d (omega arith)) (λ k d h. each (suc k) d (omega arith))
-      (place_parts at strip.count rows sums within begun))
+      let is : own ≡ mixed_part at strip.count row sources =
+      part_is rows sources k strip h (each 0 strip (omega arith))
+      ∙ ap (λ n. mixed_part n strip.count row sources) starts in
+      let long_own : length own ≡ strip.count =
+      ap length is ∙ length-part at strip.count row sources in
+      let fits : strip.start + length own ≤ length sum =
+      let within = lies.fits in omega (arith, within, long_own, long) in
+      let on : take (at + strip.count) next ≡ mixed_part 0 (at + strip.count) row sources =
+      ap (λ n. take (at + strip.count) (put_at n own sum)) starts
+      ∙ put_next at strip.count row sum own begun is in
+      sum_on rows k (at + strip.count) end strips next h
+      (length-put strip.start own sum fits ∙ long) follow.1 (λ i d w. room (suc i) d (omega arith)) (λ i d w. each (suc i) d (omega arith)) on
+
+  -- strips that follow one another carry the sums on
+  pub carried_over : (rows : List (List ℕ)) (at end : ℕ) (strips : List Strip)
+      (old new : List ℕ) → Follow at strips end → All (HasRoom (length rows) size) strips →
+      All (IsMixed rows sources) strips → ArePlaced 0 size strips old new →
+      AreBegun size at rows sources old → AreBegun size end rows sources new
+  carried_over rows at end strips old new follow room each put begun = record {
+    long = put.same_length ∙ begun.long;
+    each = λ k h.
+        let row_end : k * size + size ≤ length rows * size =
+        row_fits k size (length rows) size h (omega arith) in
+        let fits : k * size + size ≤ length old =
+        let long = begun.long in omega (arith, long, row_end) in
+        let sum : List ℕ = part (k * size) size old in
+        let left : length (drop (k * size) old) ≡ length old - k * size =
+        length-drop (k * size) old in
+        let long : length sum ≡ size =
+        length-take-le size (drop (k * size) old) (omega (arith, fits, left)) in
+        let number : 0 + k ≡ k = omega arith in
+        ap (take end) (put.each k fits ∙ ap (λ j. placed j strips sum) number)
+        ∙ sum_on rows k at end strips sum h long follow room each (begun.each k h);
+  }

@@ -3,3 +3,4 @@ pub mod Decoding
 pub mod Regenerating
 pub mod Strips
 pub mod Sums
+pub mod Placing

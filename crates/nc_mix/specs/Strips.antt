@@ -1,10 +1,9 @@
 -- Parts of all mixes, made at the same time.
-use Rattle.std.specs.Prelude.{ℕ, zero, suc, ◌≡◌, ◌+◌, ◌*◌, ◌<◌, ◌≤◌, List, [], ◌∷◌, ◌++◌}
-use Rattle.std.specs.Prelude.{drop, length, slice_index_or, take}
+use Rattle.std.specs.Prelude.{ℕ, ◌≡◌, ◌+◌, ◌*◌, ◌<◌, ◌≤◌, List, [], ◌∷◌, length, slice_index_or}
 use Rattle.std.specs.List.{All, concat, flat_map}
 use Rattle.nc_bytes.specs.Bytes.{part}
 use Rattle.nc_mix.specs.declared.strips.Strip.{Strip}
-use Rattle.nc_mix.specs.Mixing.{mixed_part, mixed_parts}
+use Rattle.nc_mix.specs.Mixing.{mixed_parts}
 
 -- the strip's part lies within the size, and there is room for one of each row
 pub record HasRoom (rows size : ℕ) (strip : Strip) : Type 0 where
@@ -48,29 +47,3 @@ HoldsPart k strip = k * strip.count + strip.count ≤ length strip.bytes.items
 -- each strip has so many parts
 abbrev pub HoldParts : ℕ → List Strip → Type 0
 HoldParts rows strips = (k : ℕ) → k < rows → All (HoldsPart k) strips
-
--- the part is written over what a sum holds from start on
-abbrev pub put_at : ℕ → List ℕ → List ℕ → List ℕ
-put_at start part sum = take start sum ++ (part ++ drop (start + length part) sum)
-
--- the next part of each sum is written from start on; the sums, so many, have one size and lie
--- side by side
-abbrev pub placed : ℕ → ℕ → ℕ → ℕ → List ℕ → List ℕ → List ℕ
-placed zero size start count parts sums = sums
-placed (suc rows) size start count parts sums =
-    put_at start (take count parts) (take size sums)
-    ++ placed rows size start count (drop count parts) (drop size sums)
-
-abbrev pub all_placed : ℕ → ℕ → List Strip → List ℕ → List ℕ
-all_placed rows size [] sums = sums
-all_placed rows size (strip ∷ strips) sums =
-    all_placed rows size strips
-    (placed rows size strip.start strip.count strip.bytes.items sums)
-
--- the first so many bytes of each mix stand; the mixes have one size and lie side by side
-abbrev pub AreBegun : ℕ → ℕ → List (List ℕ) → List (List ℕ) → List ℕ → Type 0
-AreBegun size at sources [] sums = sums ≡ []
-AreBegun size at sources (row ∷ rows) sums =
-    (length (take size sums) ≡ size)
-    × (take at (take size sums) ≡ mixed_part 0 at row sources)
-    × AreBegun size at sources rows (drop size sums)

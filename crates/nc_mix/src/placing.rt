@@ -3,11 +3,14 @@ ghost use Rattle.std.specs.Borrow.{Bor};
 ghost use Rattle.nc_native.specs.Native.{AllLong};
 ghost use Rattle.nc_mix.specs.Mixing.{lent};
 ghost use Rattle.nc_mix.specs.Decoding.{solved};
-ghost use Rattle.nc_mix.specs.Strips.{HasRoom, all_placed, placed, put_at};
+ghost use Rattle.nc_mix.specs.Strips.{HasRoom, HoldsPart};
+ghost use Rattle.nc_mix.specs.Placing.{ArePlaced, LiesWithin, placed, put_at};
 
 use crate::gates::Gate;
 use crate::strips::{Strip, mix_block};
+use nc_bytes::part_of;
 use nc_name::Memory;
+use std::thread;
 use std::thread::Threads;
 
 /// Makes block after block of the mixes, which lie side by side in `sums`, and writes each there.
@@ -31,34 +34,60 @@ pub fn place_blocks<R: Threads + Sync, G: Gate + Sync>(
     let mut at = 0;
     while at < size {
         at = mix_block(rt, strips, sources, rows, size, at, workers, gate)?;
-        place_all(sums, strips, rows.len(), size);
+        place_all(rt, sums, strips, rows.len(), size, workers);
     }
     Ok(())
 }
 
-/// Writes the parts of all strips into the sums, of which there are so many of one size.
-fn place_all(sums: &mut [u8], strips: &[Strip], rows: usize, size: usize)
+/// Writes the parts of all strips into the sums, of which there are so many of one size, by up to `workers` threads.
+fn place_all<R: Threads + Sync>(
+    rt: &R,
+    sums: &mut [u8],
+    strips: &[Strip],
+    rows: usize,
+    size: usize,
+    workers: u8,
+)
+    requires some_worker { 1 ≤ workers }
+    requires some_byte { 0 < size }
     requires room { length sums.old ≡ rows * size }
     requires parts { All (HasRoom rows size) strips.now }
-    ensures { sums.new ≡ all_placed rows size strips.now sums.old }
+    ensures { ArePlaced 0 size strips.now sums.old sums.new }
 {
-    for strip in strips {
-        place(sums, &strip.bytes, rows, size, strip.start, strip.count);
+    if rows > 0 {
+        let group = rows.div_ceil(usize::from(workers)) * size;
+        thread::for_each_chunk_mut(
+            rt,
+            sums,
+            group,
+            &|start, part| place_group(part, strips, start / size, rows, size),
+        );
     }
 }
 
-/// Writes the next part of each sum from `start` on.
-fn place(sums: &mut [u8], parts: &[u8], rows: usize, size: usize, start: usize, count: usize)
-    requires room { length sums.old ≡ rows * size }
-    requires fits { start + count ≤ size }
-    requires parts { length parts.now ≡ rows * count }
-    ensures { sums.new ≡ placed rows size start count parts.now sums.old }
+/// Writes the parts of all strips into sums that lie side by side. The first of them is sum `first` of so many.
+fn place_group(sums: &mut [u8], strips: &[Strip], first: usize, rows: usize, size: usize)
+    requires some_byte { 0 < size }
+    requires room { first * size + length sums.old ≤ rows * size }
+    requires parts { All (HasRoom rows size) strips.now }
+    ensures { ArePlaced first size strips.now sums.old sums.new }
 {
-    if rows > 0 {
+    if size <= sums.len() {
         let (sum, others) = sums.split_at_mut(size);
-        let (part, after) = parts.split_at(count);
-        put(sum, part, start);
-        place(others, after, rows - 1, size, start, count);
+        place(sum, strips, first);
+        place_group(others, strips, first + 1, rows, size);
+    }
+}
+
+/// Writes part `k` of each strip into the sum.
+fn place(sum: &mut [u8], strips: &[Strip], k: usize)
+    requires parts { All (HoldsPart k) strips.now }
+    requires fits { All (LiesWithin (length sum.old)) strips.now }
+    ensures { sum.new ≡ placed k strips.now sum.old }
+{
+    for strip in strips {
+        let part = part_of(&strip.bytes, k * strip.count, strip.count);
+        put(sum, part, strip.start);
     }
 }
 

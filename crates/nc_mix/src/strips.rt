@@ -123,7 +123,7 @@ fn give(strip: &mut Strip, rows: usize, start: usize, count: usize) -> Result<()
     Ok(())
 }
 
-/// Makes the parts of all strips, by so many threads at most.
+/// Makes the parts of all strips, by up to `workers` threads.
 fn mix_strips<R: Threads + Sync, G: Gate + Sync>(
     rt: &R,
     strips: &mut [Strip],

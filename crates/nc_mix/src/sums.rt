@@ -85,7 +85,7 @@ fn add_blocks<R: Threads + Sync, G: Gate + Sync>(
     Ok(())
 }
 
-/// Puts the parts of all strips behind what is there of the sums, by so many threads at most.
+/// Puts the parts of all strips behind what is there of the sums, by up to `workers` threads.
 fn extend_all<R: Threads + Sync>(rt: &R, sums: &mut [Sum], strips: &[Strip], workers: u8)
     requires some_worker { 1 ≤ workers }
     requires parts { HoldParts (length sums.old) strips.now }
