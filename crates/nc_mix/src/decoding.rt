@@ -125,7 +125,7 @@ pub fn decode_with<R: Threads + Sync, G: Gate + Sync>(
         return Err(Memory);
     };
     let mut file = zeros(alloc, total)?;
-    let mut strips = strips_for(alloc, workers)?;
+    let mut strips = strips_for(alloc, workers, size)?;
     place_blocks(
         rt,
         &mut file,

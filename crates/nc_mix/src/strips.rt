@@ -28,12 +28,12 @@ pub struct Strip {
     pub bytes: Vec<u8>,
 }
 
-/// Empty strips for so many workers, of which each has several.
-pub fn strips_for(alloc: Global, workers: u8) -> Result<Vec<Strip>, Memory>
-    ensures { IfOk result (λ v. length v.items ≡ EACH * workers) }
+/// Empty strips for mixes of so many bytes, for so many workers.
+pub fn strips_for(alloc: Global, workers: u8, size: usize) -> Result<Vec<Strip>, Memory>
+    ensures { IfOk result (λ v. workers ≤ length v.items) }
 {
     let mut strips = Vec::new(alloc);
-    for _ in 0..EACH * usize::from(workers) {
+    for _ in 0..strip_count(workers, size) {
         let strip = Strip {
             start: 0,
             count: 0,
@@ -44,6 +44,18 @@ pub fn strips_for(alloc: Global, workers: u8) -> Result<Vec<Strip>, Memory>
         }
     }
     Ok(strips)
+}
+
+/// Several strips for each worker. Where there are fewer bytes, one: else the first worker would have them all.
+fn strip_count(workers: u8, size: usize) -> usize
+    ensures { workers ≤ result }
+{
+    let all = EACH * usize::from(workers);
+    if size < all {
+        usize::from(workers)
+    } else {
+        all
+    }
 }
 
 /// Makes the next block of all mixes, from `at` on, cut among the strips, and tells where it ends.

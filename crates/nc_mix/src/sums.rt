@@ -32,7 +32,7 @@ pub fn mix_rows<R: Threads + Sync, G: Gate + Sync>(
         (λ chunks. chunks ≡ map (λ row. mixed size row (lent sources.now)) rows.now) }
 {
     let mut sums = empty_sums(alloc, rows.len(), size)?;
-    let mut strips = strips_for(alloc, workers)?;
+    let mut strips = strips_for(alloc, workers, size)?;
     add_blocks(
         rt,
         &mut sums,

@@ -81,6 +81,17 @@ fn two_workers_meet_in_the_gate(rt: HostRuntime) -> Result<(), Fail> {
     Ok(())
 }
 
+/// Two bytes are two parts, which two workers make.
+#[test]
+fn two_workers_meet_over_two_bytes(rt: HostRuntime) -> Result<(), Fail> {
+    let natives = cut(rt.alloc(), b"abcdefgh", 4)?;
+    let encoding = Meeting::new();
+    let chunks = encode(&rt, rt.alloc(), &natives, &striped(4), 2, &encoding)?;
+    assert!(rt; encoding.took_place());
+    assert_eq!(rt; chunks.items()[0].bytes(), b"ab".as_slice());
+    Ok(())
+}
+
 #[test]
 fn any_number_of_workers_makes_the_same(rt: HostRuntime) -> Result<(), Fail> {
     let file = file_of(rt.alloc(), 1_000_003)?;
