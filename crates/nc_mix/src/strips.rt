@@ -15,8 +15,9 @@ use std::thread::Threads;
 // from row to row.
 const STRIP: usize = 262_144;
 
-// So many strips are made by a worker before its threads are joined.
-const EACH: usize = 4;
+// So many strips are made before the threads are joined: to begin threads for fewer costs more
+// than to make them.
+const STRIPS: usize = 64;
 
 /// What a worker makes at once: a part of each row's mix, one after another.
 #[derive(Drop)]
@@ -30,7 +31,7 @@ pub struct Strip {
 
 /// Empty strips for mixes of so many bytes, for so many workers.
 pub fn strips_for(alloc: Global, workers: u8, size: usize) -> Result<Vec<Strip>, Memory>
-    ensures { IfOk result (λ v. workers ≤ length v.items) }
+    ensures { IfOk result (λ v. 0 < length v.items) }
 {
     let mut strips = Vec::new(alloc);
     for _ in 0..strip_count(workers, size) {
@@ -46,15 +47,16 @@ pub fn strips_for(alloc: Global, workers: u8, size: usize) -> Result<Vec<Strip>,
     Ok(strips)
 }
 
-/// Several strips for each worker. Where there are fewer bytes, one: else the first worker would have them all.
+/// One strip, where no threads are begun. Of fewer bytes than strips each worker has one: else the first would have them all.
 fn strip_count(workers: u8, size: usize) -> usize
-    ensures { workers ≤ result }
+    ensures { 0 < result }
 {
-    let all = EACH * usize::from(workers);
-    if size < all {
+    if workers < 2 {
+        1
+    } else if size < STRIPS {
         usize::from(workers)
     } else {
-        all
+        STRIPS
     }
 }
 
