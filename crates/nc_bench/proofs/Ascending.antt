@@ -21,14 +21,14 @@ still_ascending pieces x cloud is below pairs i j d before within =
     get_or_append_left pieces (x ∷ []) d i (omega (arith, length-append pieces (x ∷ []))) in
     elim (cases_lt j (length pieces)) [
       | inl inside ↦
-        let second : get_or (pieces ++ x ∷ []) j d ≡ get_or pieces j d =
-        get_or_append_left pieces (x ∷ []) d j inside in
-        subst (IsBefore (get_or (pieces ++ x ∷ []) i d)) (sym second)
-        (subst (λ (p : Piece). IsBefore p (get_or pieces j d)) (sym first) (pairs i j d before inside))
+          let second : get_or (pieces ++ x ∷ []) j d ≡ get_or pieces j d =
+          get_or_append_left pieces (x ∷ []) d j inside in
+          subst (IsBefore (get_or (pieces ++ x ∷ []) i d)) (sym second)
+          (subst (λ (p : Piece). IsBefore p (get_or pieces j d)) (sym first) (pairs i j d before inside))
       | inr last ↦
-        let second : get_or (pieces ++ x ∷ []) j d ≡ x =
-        get_or_at pieces x [] d j (omega (arith, length-append pieces (x ∷ []))) in
-        subst (IsBefore (get_or (pieces ++ x ∷ []) i d)) (sym second)
-        (subst (λ (p : Piece). IsBefore p x) (sym first)
+          let second : get_or (pieces ++ x ∷ []) j d ≡ x =
+          get_or_at pieces x [] d j (omega (arith, length-append pieces (x ∷ []))) in
+          subst (IsBefore (get_or (pieces ++ x ∷ []) i d)) (sym second)
+          (subst (λ (p : Piece). IsBefore p x) (sym first)
           (subst (λ (n : ℕ). (get_or pieces i d).cloud < n) (sym is) (below i d (omega (arith, length-append pieces (x ∷ []))))))
     ]

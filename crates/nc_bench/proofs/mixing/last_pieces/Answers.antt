@@ -10,11 +10,11 @@ pub loop-cloud-preserved : goal.loop-cloud-preserved
 loop-cloud-preserved c =
     let added : c.push.new.self.items ≡ c.loop-cloud.pieces.items ++ c.in_ok-piece.field-0 ∷ [] =
     c.in_ok-push.ensures.items in (
-  search rules,
-  subst (AllPairs IsBefore) (sym added)
-  (still_ascending _ _ _ c.in_ok-piece.ensures.cloud c.loop-cloud.invariant.2 c.loop-cloud.invariant.1),
-  subst (All (λ (p : Piece). p.cloud < c.loop-cloud.cloud + 1)) (sym added)
-  (all_below _ _ _ c.in_ok-piece.ensures.cloud c.loop-cloud.invariant.2),
-  subst (All (IsLong c.chunk_size-size.result)) (sym added)
-  (All-push (IsLong c.chunk_size-size.result) _ _ c.loop-cloud.invariant.3 c.in_ok-piece.ensures.long),
-)
+      search rules,
+      subst (AllPairs IsBefore) (sym added)
+          (still_ascending _ _ _ c.in_ok-piece.ensures.cloud c.loop-cloud.invariant.2 c.loop-cloud.invariant.1),
+      subst (All (λ (p : Piece). p.cloud < c.loop-cloud.cloud + 1)) (sym added)
+          (all_below _ _ _ c.in_ok-piece.ensures.cloud c.loop-cloud.invariant.2),
+      subst (All (IsLong c.chunk_size-size.result)) (sym added)
+          (All-push (IsLong c.chunk_size-size.result) _ _ c.loop-cloud.invariant.3 c.in_ok-piece.ensures.long),
+    )
