@@ -19,6 +19,7 @@ except ImportError:
 
 SIZE = 1 << 26
 WIDTHS = (4, 7, 10)
+FOUR_HASHES = 'for number in 1 2 3 4; do sha256sum "$0" & done; wait'
 COPIES_AND_HASH = 'cp "$0" "$1" && sync "$1" && cp "$0" "$2" && sync "$2" && sha256sum "$0"'
 
 
@@ -67,6 +68,7 @@ def other_rows(file, others):
     """Other programs on the same bytes, where they are there."""
     commands = {
         "sha256sum": ["sha256sum", file],
+        "four sha256sum at once": ["sh", "-c", FOUR_HASHES, file],
         "cp": ["cp", file, others + "/cp"],
         "two copies synced and sha256sum": ["sh", "-c", COPIES_AND_HASH, file, others + "/one", others + "/two"],
     }
