@@ -7,6 +7,7 @@ mod founds;
 mod marking;
 mod parts;
 mod reading;
+mod rooms;
 mod rows;
 mod seats;
 mod trying;

@@ -5,11 +5,11 @@ ghost use Rattle.nc_cloud.specs.Stopping.{Stops};
 ghost use Rattle.nc_meta.specs.Metas.{IsLive};
 ghost use Rattle.nc_fetch.specs.Reading.{ReadsUnmarked};
 
-use crate::trying::try_clouds;
+use crate::rooms::try_beside;
 use nc_cloud::Fleet;
 use nc_download::Why;
 use nc_meta::Live;
-use nc_mix::{Open, decode};
+use nc_mix::{Open, decode_into};
 use nc_name::{Blob, Memory, Name};
 use std::alloc::Global;
 use std::thread::Threads;
@@ -39,10 +39,13 @@ pub fn read_unmarked<R: Threads + Sync, F: Fleet>(
     ensures stops { Stops F.Fleet fleet.old fleet.new (λ G. G ≡ F.held fleet.old) }
 {
     let width = fleet.width() as u8;
-    let pieces = try_clouds(rt, alloc, fleet, name, live, whys, workers)?;
+    let mut room = Vec::new(alloc);
+    let pieces = try_beside(rt, alloc, fleet, name, live, whys, &mut room, workers)?;
     if pieces.len() + 2 < usize::from(width) {
         return Ok(None);
     }
-    let file = decode(rt, alloc, &pieces, &live.code, live.len, workers, &Open)?;
+    let file = decode_into(
+        rt, alloc, room, &pieces, &live.code, live.len, workers, &Open,
+    )?;
     Ok(Some(file))
 }

@@ -43,11 +43,61 @@ pub fn decode<R: Threads + Sync, G: Gate + Sync>(
     ensures length { IfOk result (λ file. length file ≡ len) }
     ensures file { IfOk result (λ file. (v : List ℕ) → AreBytes v → length v ≡ len → All (IsPieceOf code.now v) pieces.now → file ≡ v) }
 {
+    let file = decode_into(rt, alloc, Vec::new(alloc), pieces, code, len, workers, gate)?;
+    Ok(file)
+}
+
+/// As `decode`, in room that was made before. What that holds counts for nothing, and where it isn't as long as the natives
+/// together more is taken.
+pub fn decode_into<R: Threads + Sync, G: Gate + Sync>(
+    rt: &R,
+    alloc: Global,
+    room: Vec<u8>,
+    pieces: &[Piece],
+    code: &Code,
+    len: u64,
+    workers: u8,
+    gate: &G,
+) -> Result<Blob, Memory>
+    requires mds { IsMds code.now }
+    requires count { length pieces.now + 2 ≡ code.now.width }
+    requires ascending { AllPairs IsBefore pieces.now }
+    requires in_width { All (λ x. x.cloud < code.now.width) pieces.now }
+    requires long { All (IsLong (chunk_size len code.now.width)) pieces.now }
+    requires some_worker { 1 ≤ workers }
+    requires few_workers { workers ≤ 16 }
+    ensures solved { IfOk result (IsSolution code.now len pieces.now) }
+    ensures length { IfOk result (λ file. length file ≡ len) }
+    ensures file { IfOk result (λ file. (v : List ℕ) → AreBytes v → length v ≡ len → All (IsPieceOf code.now v) pieces.now → file ≡ v) }
+{
     told_chunks(pieces);
     let size = chunk_size(len, code.width()) as usize;
     let inverse = inverse_of(pieces, code);
     let rows = first_rows(&inverse.cells, inverse.size as usize);
-    decode_with(rt, alloc, pieces, rows, size, len as usize, workers, gate)
+    decode_with(
+        rt,
+        alloc,
+        room,
+        pieces,
+        rows,
+        size,
+        len as usize,
+        workers,
+        gate,
+    )
+}
+
+/// Room for a file of so many bytes, as `decode_into` fills it: for all its natives.
+pub fn room_for(alloc: Global, width: u8, len: u64) -> Result<Vec<u8>, Memory>
+    requires wide { 4 ≤ width }
+    requires narrow { width ≤ 10 }
+    ensures { IfOk result (λ room. length room.items ≡ native_count width * chunk_size len width) }
+{
+    let count = usize::from(2 * (width - 2));
+    let Some(total) = count.checked_mul(chunk_size(len, width) as usize) else {
+        return Err(Memory);
+    };
+    resized(Vec::new(alloc), total)
 }
 
 /// Tells that what the pieces hold are bytes.
@@ -108,6 +158,7 @@ pub fn square_of(pieces: &[Piece], code: &Code) -> Square
 pub fn decode_with<R: Threads + Sync, G: Gate + Sync>(
     rt: &R,
     alloc: Global,
+    room: Vec<u8>,
     pieces: &[Piece],
     rows: &[[u8; 16]],
     size: usize,
@@ -124,7 +175,7 @@ pub fn decode_with<R: Threads + Sync, G: Gate + Sync>(
     let Some(total) = rows.len().checked_mul(size) else {
         return Err(Memory);
     };
-    let mut file = zeros(alloc, total)?;
+    let mut file = resized(room, total)?;
     let mut strips = strips_for(alloc, workers, size)?;
     place_blocks(
         rt,
@@ -140,17 +191,14 @@ pub fn decode_with<R: Threads + Sync, G: Gate + Sync>(
     Ok(Blob::from_vec(file))
 }
 
-/// So many zeros.
-fn zeros(alloc: Global, size: usize) -> Result<Vec<u8>, Memory>
+/// The same room, so many bytes long.
+fn resized(mut room: Vec<u8>, size: usize) -> Result<Vec<u8>, Memory>
     ensures { IfOk result (λ v. length v.items ≡ size) }
 {
-    let Ok(mut bytes) = Vec::with_capacity(alloc, size) else {
-        return Err(Memory);
-    };
-    if bytes.resize(size, 0).is_err() {
+    if room.resize(size, 0).is_err() {
         return Err(Memory);
     }
-    Ok(bytes)
+    Ok(room)
 }
 
 /// The bytes of each chunk.

@@ -14,7 +14,7 @@ mod strips;
 mod sum;
 mod sums;
 
-pub use decoding::decode;
+pub use decoding::{decode, decode_into, room_for};
 pub use encoding::{encode, encode_file};
 pub use gates::{Gate, Open};
 use nc_name::{Blob, Sequence};

@@ -112,8 +112,8 @@ fn pieces_without(
     Ok(pieces)
 }
 
-/// What the pieces decode to, where their rows can be inverted. (`decode` itself asks that the code be MDS, which is proved
-/// in another crate.)
+/// What the pieces decode to, where their rows can be inverted, in room that holds other bytes. (`decode` itself asks that the code be
+/// MDS, which is proved in another crate.)
 fn decoded<R: Threads + Sync, G: Gate + Sync>(
     rt: &R,
     alloc: Global,
@@ -132,7 +132,18 @@ fn decoded<R: Threads + Sync, G: Gate + Sync>(
     match invert(&square_of(pieces, code)) {
         Outcome::Inverse(inverse) => {
             let rows = first_rows(&inverse.cells, inverse.size as usize);
-            let file = decode_with(rt, alloc, pieces, rows, size, len as usize, workers, gate)?;
+            let room = file_of(alloc, 1000)?;
+            let file = decode_with(
+                rt,
+                alloc,
+                room,
+                pieces,
+                rows,
+                size,
+                len as usize,
+                workers,
+                gate,
+            )?;
             Ok(Some(file))
         }
         Outcome::Kernel(_) => Ok(None),

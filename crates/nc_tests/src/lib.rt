@@ -5,6 +5,8 @@
 #[cfg(test)]
 mod codes;
 #[cfg(test)]
+mod fetch_tests;
+#[cfg(test)]
 mod look_tests;
 #[cfg(test)]
 mod repair_tests;

@@ -5,7 +5,7 @@ use Rattle.nc_native.specs.Native.{AllLong, chunk_size}
 use Rattle.std.specs.List.{All}
 use Rattle.nc_mix.specs.Decoding.{IsPieceOf, IsLong, IsSolution, chunks_in, solved}
 use Rattle.nc_mix.proofs.FileBack.{length-chunks_in, chunks_long, solution, file_back, length_back}
-use Rattle.nc_mix.proofs.decoding.decode.Goals as goal
+use Rattle.nc_mix.proofs.decoding.decode_into.Goals as goal
 
 pub decode_with-requires-clause-count : goal.decode_with-requires-clause-count
 decode_with-requires-clause-count g c κs within =
