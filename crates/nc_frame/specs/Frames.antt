@@ -1,5 +1,5 @@
 -- Sealed objects: what stands on a cloud.
-use Rattle.std.specs.Prelude.{ℕ, ◌≡◌, ◌≢◌, ◌<◌, ◌^◌, List, [], ◌∷◌, ◌++◌, length}
+use Rattle.std.specs.Prelude.{ℕ, ◌≡◌, ◌≢◌, ◌-◌, ◌<◌, ◌^◌, List, [], ◌∷◌, ◌++◌, length, replicate, take}
 use Rattle.sha2.specs.Sha256.{sha256}
 use Rattle.nc_bytes.specs.Bytes.{AreBytes, bytes_2, bytes_8}
 
@@ -25,6 +25,19 @@ pub record HasFrame (cloud width : ℕ) (key payload : List ℕ) : Type 0 where
 pub record Sealed (bytes : List ℕ) (cloud width : ℕ) (key payload : List ℕ) : Type 0 where
   pub fits : HasFrame cloud width key payload
   pub is_frame : bytes ≡ frame cloud width key payload
+
+-- the frame of these parts but for its digest, in whose place zeros stand
+unfoldable pub laid_frame : ℕ → ℕ → List ℕ → List ℕ → List ℕ
+laid_frame cloud width key payload = frame_front cloud width key payload ++ replicate 32 0
+
+-- the bytes are that
+pub record LaidOut (bytes : List ℕ) (cloud width : ℕ) (key payload : List ℕ) : Type 0 where
+  pub fits : HasFrame cloud width key payload
+  pub is_laid : bytes ≡ laid_frame cloud width key payload
+
+-- the same bytes, but for the SHA-256 of all before the last 32 in place of those
+unfoldable pub finished : List ℕ → List ℕ
+finished bytes = take (length bytes - 32) bytes ++ sha256 (take (length bytes - 32) bytes)
 
 -- the bytes are a frame; else they are broken
 pub record Whole (bytes : List ℕ) : Type 0 where

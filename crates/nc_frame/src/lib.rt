@@ -22,4 +22,4 @@ mod sealing;
 mod tests;
 
 pub use opening::{Seen, open};
-pub use sealing::{seal, seal_around};
+pub use sealing::{finish, lay_out, seal, seal_around};

@@ -1,9 +1,8 @@
-ghost use Rattle.std.specs.Prelude.{◌≡◌, ◌+◌, ◌<◌, ◌++◌, ◌^◌, ℕ, List, IfOk, length};
-ghost use Rattle.sha2.specs.Sha256.{sha256};
+ghost use Rattle.std.specs.Prelude.{◌≡◌, ◌+◌, ◌<◌, ◌≤◌, ◌++◌, ◌^◌, ℕ, List, IfOk, length};
 ghost use Rattle.nc_name.specs.Keys.{Slots, key_text};
-ghost use Rattle.nc_frame.specs.Frames.{Sealed, frame_front};
+ghost use Rattle.nc_frame.specs.Frames.{LaidOut, Sealed, finished, frame_front};
 
-use nc_bytes::{told_bytes, u16_bytes, u64_bytes};
+use nc_bytes::{part_of, told_bytes, u16_bytes, u64_bytes};
 use nc_name::{BEHIND, Blob, FRONT, Key, Memory};
 use sha2::{Digest, Sha256};
 use std::alloc::Global;
@@ -29,22 +28,39 @@ pub fn seal_around(
     requires { Slots key.now }
     ensures { IfOk result (λ blob. Sealed blob cloud width (key_text key.now) payload) }
 {
+    let frame = lay_out(alloc, cloud, width, key, payload)?;
+    Ok(finish(frame))
+}
+
+/// The frame of a payload but for its digest, in whose place zeros stand until `finish`. It is made around a payload that has room
+/// before and behind it.
+pub fn lay_out(
+    alloc: Global,
+    cloud: u8,
+    width: u8,
+    key: &Key,
+    payload: Blob,
+) -> Result<Blob, Memory>
+    requires { Slots key.now }
+    ensures { IfOk result (λ blob. LaidOut blob cloud width (key_text key.now) payload) }
+{
     told_bytes(payload.bytes());
     let text = key.text();
     let len = payload.bytes().len();
     let front = front_of(alloc, cloud, width, text.as_str().as_bytes(), len)?;
-    let bytes = payload.with_front(alloc, &front)?;
-    let frame = digested(bytes)?;
-    Ok(frame)
+    let mut bytes = payload.with_front(alloc, &front)?;
+    bytes.append(&[0; BEHIND])?;
+    Ok(bytes)
 }
 
-/// The bytes with their digest behind them.
-fn digested(mut bytes: Blob) -> Result<Blob, Memory>
-    ensures { IfOk result (λ blob. blob ≡ bytes ++ sha256 bytes) }
+/// A frame that was laid out, with its digest. It takes no memory.
+pub fn finish(frame: Blob) -> Blob
+    requires { 32 ≤ length frame }
+    ensures { result ≡ finished frame }
 {
-    let digest = Sha256::digest(bytes.bytes());
-    bytes.append(&digest)?;
-    Ok(bytes)
+    let end = frame.bytes().len() - BEHIND;
+    let digest = Sha256::digest(part_of(frame.bytes(), 0, end));
+    frame.with_end(&digest)
 }
 
 /// What stands before a payload of so many bytes.

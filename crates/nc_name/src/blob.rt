@@ -1,4 +1,4 @@
-ghost use Rattle.std.specs.Prelude.{◌≡◌, ◌+◌, ◌≤◌, ◌++◌, [], ℕ, List, IfOk, OnOk, OnErr, drop, length};
+ghost use Rattle.std.specs.Prelude.{◌≡◌, ◌+◌, ◌-◌, ◌≤◌, ◌++◌, [], ℕ, List, IfOk, OnOk, OnErr, drop, length, take};
 ghost use Rattle.nc_bytes.specs.Bytes.{part};
 
 use std::alloc::{AllocError, AllocFailed, Global};
@@ -104,6 +104,17 @@ impl Blob {
         Ok(Blob { bytes, front })
     }
 
+    /// The same bytes, but for these in place of as many at the end. It takes no memory.
+    pub fn with_end(self, more: &[u8]) -> Blob
+        requires { length more.now ≤ length self }
+        ensures { result ≡ take (length self - length more.now) self ++ more.now }
+    {
+        let Blob { mut bytes, front } = self;
+        let at = bytes.len() - more.len();
+        write_at_end(&mut bytes, more, at);
+        Blob { bytes, front }
+    }
+
     /// The `n` bytes from place `at` on, where they are: it takes no memory.
     pub fn into_part(self, at: usize, n: usize) -> Blob
         requires { at + n ≤ length self }
@@ -124,6 +135,15 @@ fn joined(alloc: Global, one: &[u8], other: &[u8]) -> Result<Blob, Memory>
     blob.append(one)?;
     blob.append(other)?;
     Ok(blob)
+}
+
+/// Writes these bytes over what stands from place `at` on, to the end.
+fn write_at_end(bytes: &mut [u8], more: &[u8], at: usize)
+    requires { at + length more.now ≡ length bytes.old }
+    ensures { bytes.new ≡ take at bytes.old ++ more.now }
+{
+    let (_, place) = bytes.split_at_mut(at);
+    place.copy_from_slice(more);
 }
 
 /// Writes these bytes over what stands from place `at` on.

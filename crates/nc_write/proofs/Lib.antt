@@ -7,7 +7,8 @@ pub mod PutDone
 pub mod PuttingLaws
 pub mod RemoveDone
 pub mod RowLaws
-pub mod SealingLaws
+pub mod LaidRounds
+pub mod LayingLaws
 pub mod TidyLaws
 pub mod TidyTurns
 pub mod VersionRounds

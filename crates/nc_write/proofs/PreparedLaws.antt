@@ -13,9 +13,11 @@ use Rattle.nc_state.specs.Versions.{IsValid}
 use Rattle.nc_state.specs.Versions.Version.{Stored}
 use Rattle.nc_write.specs.declared.sealing.Placed.{Placed}
 use Rattle.nc_write.specs.declared.sealing.VersionWrites.{VersionWrites}
+use Rattle.nc_write.specs.Laying.{AreVersionLaid, IsPutLaid}
 use Rattle.nc_write.specs.Marks.{AreMarks}
 use Rattle.nc_write.specs.Putting.{IsPutOf, next_meta, placed_of, put_meta}
 use Rattle.nc_write.specs.Writes.{AreOfFile, AreVersionWrites, clouds_of}
+use Rattle.nc_write.proofs.LayingLaws.{version_finished}
 use Rattle.nc_write.proofs.PuttingLaws.{marks_are, put_is, valid_by}
 use Rattle.nc_write.proofs.RowLaws.{ascend_each, clouds_are, row_of_file}
 
@@ -49,3 +51,11 @@ module _ (name : List ℕ) (top : Option Meta) (good : GoodParts) (v : List ℕ)
           of_1 = subst (AreOfFile n w.live v 1) (sym ones_are) (row_of_file n w.live good.code v chunks 1 code refl (omega arith) are);
         };
       }
+
+  -- the same of a version that was laid out
+  pub prepared_laid : (live : Live) (zeros ones : List Placed) (w : VersionWrites) → live ≡ next_meta n top good (length v) marks → IsLive n live
+      → zeros ≡ row (placed_of chunks 0) 0 n → ones ≡ row (placed_of chunks 1) 0 n → w.live ≡ live → AreVersionLaid n name zeros ones w → IsPutLaid n name top good v w
+  prepared_laid live zeros ones w live_is fits zeros_are ones_are same laid = record {
+    is = record { name = name; zeros = zeros; ones = ones; laid = laid };
+    once_finished = λ done finishes. prepared live zeros ones done live_is fits zeros_are ones_are (finishes.live ∙ same) (version_finished n name zeros ones w done laid finishes);
+  }

@@ -24,7 +24,7 @@ use Rattle.nc_write.specs.InTurn.{AfterRound, WroteInTurn, rounds_of}
 use Rattle.nc_write.specs.Replacing.{Replaces}
 use Rattle.nc_write.specs.Writes.{WritesFile, chunk_key, clouds_of}
 use Rattle.nc_write.proofs.ChunkRounds.{both_right, metas_held, metas_image, metas_still_right, right_still, row_leaves, row_rests, row_right}
-use Rattle.nc_write.proofs.SealingLaws.{of_clouds}
+use Rattle.nc_write.proofs.LayingLaws.{of_clouds}
 
 -- ---- over contents
 

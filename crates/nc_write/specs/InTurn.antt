@@ -7,6 +7,7 @@ use Rattle.nc_cloud.specs.Contents.{Write}
 use Rattle.nc_cloud.specs.Deciding.{Wrote}
 use Rattle.nc_cloud.specs.Fleet.{writes}
 use Rattle.nc_write.specs.declared.sealing.VersionWrites.{VersionWrites}
+use Rattle.nc_write.specs.Laying.{FinishesVersion}
 
 -- after a round that was answered so: the rest, where it was Ok; else nothing more, and its answer is that of all
 abbrev pub AfterRound : {A : Type 0} → Result (Unit {0}) RoundFault → Type 0 → A → A → Result (Unit {0}) RoundFault → Type 0
@@ -29,3 +30,9 @@ WroteInTurn F (ps ∷ rounds) old new result = WroteFirst F ps (λ mid. WroteInT
 -- the rounds of a version: row 0 and row 1 of its new chunks, and then its metadata
 abbrev pub rounds_of : VersionWrites → List (List Write)
 rounds_of w = writes w.first.items ∷ writes w.second.items ∷ writes w.metas.items ∷ []
+
+-- The rounds of a version that was laid out, once its frames were finished.
+pub record FinishedInTurn {A : Type 0} (F : FleetGhosts A) (laid : VersionWrites) (old new : A) (result : Result (Unit {0}) RoundFault) : Type 0 where
+  pub done : VersionWrites
+  pub finishes : FinishesVersion laid done
+  pub wrote : WroteInTurn F (rounds_of done) old new result

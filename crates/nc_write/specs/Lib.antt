@@ -5,6 +5,6 @@ pub mod Marks
 pub mod Putting
 pub mod Removing
 pub mod Replacing
-pub mod Sealing
+pub mod Laying
 pub mod Tidying
 pub mod Writes

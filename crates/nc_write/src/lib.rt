@@ -4,6 +4,8 @@
 mod answering;
 mod erasing;
 mod fault;
+mod finishing;
+mod laying;
 mod live;
 mod marks;
 mod part;
@@ -12,14 +14,12 @@ mod putting;
 mod removing;
 mod rows;
 mod sealing;
-mod seats;
 mod tidying;
 mod writing;
 
 pub use fault::WriteFault;
 pub use live::told_plans;
 pub use marks::mark_of;
-pub use preparing::prepare;
 pub use putting::put;
 pub use removing::remove;
 pub use rows::Rows;

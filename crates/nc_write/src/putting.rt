@@ -13,7 +13,7 @@ ghost use Rattle.nc_write.specs.Putting.{IsPutBy, IsStored, put_meta};
 use crate::answering::answer_of;
 use crate::fault::WriteFault;
 use crate::preparing::prepare;
-use crate::writing::write_version;
+use crate::writing::write_laid;
 use nc_cloud::Fleet;
 use nc_meta::Meta;
 use nc_name::Name;
@@ -99,6 +99,6 @@ fn put_in_turn<R: Threads + Sync, F: Fleet>(
         Err(_) => return Err(WriteFault::Memory),
     };
     let live = version.live;
-    let answer = write_version(fleet, version);
+    let answer = write_laid(rt, alloc, fleet, version, workers);
     answer_of(answer, Meta::Live(live))
 }

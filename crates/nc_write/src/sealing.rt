@@ -1,11 +1,14 @@
 //! All writes of a version, made before the first of them.
 ghost use Rattle.std.specs.Prelude.{◌≡◌, ◌<◌, ◌≤◌, All, IfOk};
 ghost use Rattle.nc_meta.specs.Metas.{IsLive, IsMeta};
+ghost use Rattle.nc_meta.specs.declared.meta.Meta.TheVariants.{Live as LiveMeta};
 ghost use Rattle.nc_cloud.specs.Deciding.{AreAscending};
+ghost use Rattle.nc_write.specs.Laying.{AreVersionLaid};
 ghost use Rattle.nc_write.specs.Writes.{AreChunkWrites, AreMetaWrites, AreVersionWrites, clouds_of};
 
+use crate::finishing::finish_rows;
+use crate::laying::lay_rows;
 use crate::rows::Rows;
-use crate::seats::{seal_all, seats_of, writes_of};
 use nc_cloud::Job;
 use nc_meta::{Live, Meta};
 use nc_name::{Blob, Memory, Name};
@@ -39,7 +42,30 @@ pub struct VersionWrites {
     pub metas: Vec<Job>,
 }
 
-/// Seals a version with these new chunks, one of each row for each of some clouds: a put's are on all clouds, a repair's on one.
+/// Lays out a version with these new chunks, one of each row for each of some clouds: a put's are on all clouds, a repair's on one.
+/// The frames of its chunks have no digests yet; its metadata is sealed.
+pub(crate) fn lay_version(
+    alloc: Global,
+    width: u8,
+    name: &Name,
+    live: &Live,
+    rows: Rows,
+) -> Result<VersionWrites, Memory>
+    requires wide { 4 ≤ width }
+    requires narrow { width ≤ 10 }
+    requires fits { IsLive width live.now }
+    requires ascend { AreAscending (λ c. c) width (clouds_of rows.zeros.items) }
+    requires same { clouds_of rows.ones.items ≡ clouds_of rows.zeros.items }
+    ensures live { IfOk result (λ w. w.live ≡ live.now) }
+    ensures laid { IfOk result
+        (AreVersionLaid width name.now rows.zeros.items rows.ones.items) }
+{
+    let chunks = lay_rows(alloc, width, name, live, rows)?;
+    let version = with_metas(alloc, width, name, live, chunks)?;
+    Ok(version)
+}
+
+/// Seals a version with these new chunks, as `lay_version` lays it out, up to so many at once.
 pub fn seal_version<R: Threads + Sync>(
     rt: &R,
     alloc: Global,
@@ -61,6 +87,27 @@ pub fn seal_version<R: Threads + Sync>(
         (AreVersionWrites width name.now rows.zeros.items rows.ones.items) }
 {
     let chunks = seal_rows(rt, alloc, width, name, live, rows, workers)?;
+    let version = with_metas(alloc, width, name, live, chunks)?;
+    Ok(version)
+}
+
+/// These writes of chunks, and those of the metadata.
+fn with_metas(
+    alloc: Global,
+    width: u8,
+    name: &Name,
+    live: &Live,
+    chunks: RowWrites,
+) -> Result<VersionWrites, Memory>
+    requires wide { 4 ≤ width }
+    requires narrow { width ≤ 10 }
+    requires fits { IsLive width live.now }
+    ensures live { IfOk result (λ w. w.live ≡ live.now) }
+    ensures first { IfOk result (λ w. w.first ≡ chunks.first) }
+    ensures second { IfOk result (λ w. w.second ≡ chunks.second) }
+    ensures metas { IfOk result
+        (λ w. AreMetaWrites width name.now (LiveMeta live.now) w.metas.items) }
+{
     let metas = metas_for(alloc, width, name, &Meta::Live(*live))?;
     let RowWrites { first, second } = chunks;
     Ok(VersionWrites {
@@ -103,9 +150,6 @@ pub fn seal_rows<R: Threads + Sync>(
     ensures second { IfOk result
         (λ w. AreChunkWrites width name.now live.now 1 rows.ones.items w.second.items) }
 {
-    let zeros = rows.zeros.len();
-    let mut seats = seats_of(alloc, width, name, live, rows)?;
-    seal_all(rt, alloc, width, &mut seats, workers);
-    let writes = writes_of(alloc, seats, zeros)?;
-    Ok(writes)
+    let laid = lay_rows(alloc, width, name, live, rows)?;
+    Ok(finish_rows(rt, alloc, laid, workers))
 }

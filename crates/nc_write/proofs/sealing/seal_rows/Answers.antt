@@ -1,13 +1,14 @@
-use Rattle.std.proofs.Common.{◌∙◌, arith}
-use Rattle.nc_write.proofs.SealingLaws.{came_back, ones_made, zeros_made}
+use Rattle.nc_write.proofs.LayingLaws.{row_finished, row_long}
 use Rattle.nc_write.proofs.sealing.seal_rows.Goals as goal
 
+pub finish_rows-requires-clause-zeros : goal.finish_rows-requires-clause-zeros
+finish_rows-requires-clause-zeros g c κs within = row_long _ _ _ _ _ _ c.in_ok-laid.ensures.first
+
+pub finish_rows-requires-clause-ones : goal.finish_rows-requires-clause-ones
+finish_rows-requires-clause-ones g c κs within = row_long _ _ _ _ _ _ c.in_ok-laid.ensures.second
+
 pub returns-clause-first : goal.returns-clause-first
-returns-clause-first g c =
-    zeros_made _ _ _ c.args.rows.zeros.items c.args.rows.ones.items c.len-zeros.result _ _ (c.deref_mut.ensures.value ∙ c.in_ok-seats.ensures.seats) (omega arith) c.seal_all.ensures _ _
-    (came_back _ _ _ _ _ c.deref_mut.ensures.value c.seal_all.ensures (omega arith)) c.in_ok-writes.ensures.first
+returns-clause-first g c = row_finished _ _ _ _ _ _ _ c.in_ok-laid.ensures.first c.finish_rows.ensures.first
 
 pub returns-clause-second : goal.returns-clause-second
-returns-clause-second g c =
-    ones_made _ _ _ c.args.rows.zeros.items c.args.rows.ones.items c.len-zeros.result _ _ (c.deref_mut.ensures.value ∙ c.in_ok-seats.ensures.seats) (omega arith) c.seal_all.ensures _ _
-    (came_back _ _ _ _ _ c.deref_mut.ensures.value c.seal_all.ensures (omega arith)) c.in_ok-writes.ensures.second
+returns-clause-second g c = row_finished _ _ _ _ _ _ _ c.in_ok-laid.ensures.second c.finish_rows.ensures.second

@@ -1,4 +1,4 @@
-use Rattle.std.proofs.Common.{◌∙◌, sym, subst}
+use Rattle.std.proofs.Common.{sym, subst}
 use Rattle.nc_cloud.specs.declared.fleet.Job.{Job}
 use Rattle.nc_cloud.specs.Deciding.{AreAscending}
 use Rattle.nc_write.specs.Writes.{clouds_of}
@@ -10,15 +10,14 @@ write_row-requires-clause-clouds g c =
     let made = c.requires.made.made in
     row_ascend _ _ _ _ made.zeros _ made.made.row_0 _ made.made.ascend
 
-pub write_row-requires-2-clause-clouds : goal.write_row-requires-2-clause-clouds
-write_row-requires-2-clause-clouds g c =
+pub write_rest-requires-clause-clouds : goal.write_rest-requires-clause-clouds
+write_rest-requires-clause-clouds g c =
     let made = c.requires.made.made in
     row_ascend _ _ _ _ made.ones _ made.made.row_1 _
     (subst (λ z. AreAscending (λ k. k) z (clouds_of made.ones)) (sym c.write_row.ensures.wrote.1.clouds)
     (subst (AreAscending (λ k. k) (g.F.Fleet.clouds c.args.fleet.now)) (sym made.made.same) made.made.ascend))
 
-pub write_row-requires-3-clause-clouds : goal.write_row-requires-3-clause-clouds
-write_row-requires-3-clause-clouds g c =
+pub write_rest-requires-clause-meta_clouds : goal.write_rest-requires-clause-meta_clouds
+write_rest-requires-clause-meta_clouds g c =
     let made = c.requires.made.made in
-    subst (λ z. AreAscending (λ (j : Job). j.cloud) z c.args.version.metas.items) (sym (c.write_row-2.ensures.wrote.1.clouds ∙ c.write_row.ensures.wrote.1.clouds))
-    (metas_ascend _ _ _ _ made.made.metas_are)
+    subst (λ z. AreAscending (λ (j : Job). j.cloud) z c.args.version.metas.items) (sym c.write_row.ensures.wrote.1.clouds) (metas_ascend _ _ _ _ made.made.metas_are)
