@@ -1,10 +1,10 @@
 -- The pieces that a file comes back from, and what they give.
 use Rattle.std.specs.Prelude.{ℕ, ◌≡◌, ◌+◌, ◌*◌, ◌<◌, List, [], ◌∷◌, length, map, slice_index_or, take}
-use Rattle.std.specs.List.{All, concat}
+use Rattle.std.specs.List.{All, AllPairs, concat}
 use Rattle.nc_bytes.specs.Bytes.{AreBytes}
 use Rattle.nc_native.specs.Native.{AllLong, chunk_size, combination}
 use Rattle.nc_code.specs.Parts.{CodeParts}
-use Rattle.nc_code.specs.Codes.{code_row}
+use Rattle.nc_code.specs.Codes.{IsMds, code_row}
 use Rattle.nc_gf256.specs.Width.{native_count}
 use Rattle.nc_matrix.specs.Inverted.{IsInverse}
 use Rattle.nc_mix.specs.declared.pieces.Piece.{Piece}
@@ -47,6 +47,21 @@ pub record HoldsBytes (piece : Piece) : Type 0 where
 -- the first piece is of a lower cloud
 abbrev pub IsBefore : Piece → Piece → Type 0
 IsBefore a b = a.cloud < b.cloud
+
+-- a file of `len` bytes comes back from the pieces: they are of n - 2 of n clouds, in ascending order, with chunks of the size of its
+-- chunks, and the code is MDS
+pub record AreEnough (code : CodeParts) (len : ℕ) (pieces : List Piece) : Type 0 where
+  pub mds : IsMds code
+  pub count : length pieces + 2 ≡ code.width
+  pub ascending : AllPairs IsBefore pieces
+  pub in_width : All (λ x. x.cloud < code.width) pieces
+  pub long : All (IsLong (chunk_size len code.width)) pieces
+
+-- what comes back: the solution, of so many bytes, which is each file whose combinations the pieces are
+pub record IsDecoded (code : CodeParts) (len : ℕ) (pieces : List Piece) (file : List ℕ) : Type 0 where
+  pub solved : IsSolution code len pieces file
+  pub long : length file ≡ len
+  pub is_file : (v : List ℕ) → AreBytes v → length v ≡ len → All (IsPieceOf code v) pieces → file ≡ v
 
 -- the chunks of all pieces in order
 abbrev pub chunks_in : List Piece → List (List ℕ)

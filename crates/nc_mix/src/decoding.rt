@@ -1,12 +1,11 @@
-ghost use Rattle.std.specs.Prelude.{◌≡◌, ℕ, ◌+◌, ◌*◌, ◌<◌, ◌≤◌, List, length, take, IfOk};
+ghost use Rattle.std.specs.Prelude.{◌≡◌, ◌+◌, ◌*◌, ◌<◌, ◌≤◌, length, take, IfOk};
 ghost use Rattle.std.specs.Borrow.{Bor};
 ghost use Rattle.std.specs.List.{All, AllPairs};
-ghost use Rattle.nc_bytes.specs.Bytes.{AreBytes};
 ghost use Rattle.nc_gf256.specs.Width.{native_count};
 ghost use Rattle.nc_native.specs.Native.{AllLong, chunk_size};
 ghost use Rattle.nc_code.specs.Codes.{IsMds};
 ghost use Rattle.nc_mix.specs.Mixing.{lent};
-ghost use Rattle.nc_mix.specs.Decoding.{HoldsBytes, HoldsRows, Inverts, IsBefore, IsLong, IsPieceOf, IsSolution, chunks_in, solved};
+ghost use Rattle.nc_mix.specs.Decoding.{AreEnough, HoldsBytes, HoldsRows, Inverts, IsBefore, IsDecoded, chunks_in, solved};
 
 use crate::gates::Gate;
 use crate::pieces::Piece;
@@ -32,16 +31,10 @@ pub fn decode<R: Threads + Sync, G: Gate + Sync>(
     workers: u8,
     gate: &G,
 ) -> Result<Blob, Memory>
-    requires mds { IsMds code.now }
-    requires count { length pieces.now + 2 ≡ code.now.width }
-    requires ascending { AllPairs IsBefore pieces.now }
-    requires in_width { All (λ x. x.cloud < code.now.width) pieces.now }
-    requires long { All (IsLong (chunk_size len code.now.width)) pieces.now }
+    requires enough { AreEnough code.now len pieces.now }
     requires some_worker { 1 ≤ workers }
     requires few_workers { workers ≤ 16 }
-    ensures solved { IfOk result (IsSolution code.now len pieces.now) }
-    ensures length { IfOk result (λ file. length file ≡ len) }
-    ensures file { IfOk result (λ file. (v : List ℕ) → AreBytes v → length v ≡ len → All (IsPieceOf code.now v) pieces.now → file ≡ v) }
+    ensures { IfOk result (IsDecoded code.now len pieces.now) }
 {
     let file = decode_into(rt, alloc, Vec::new(alloc), pieces, code, len, workers, gate)?;
     Ok(file)
@@ -59,16 +52,10 @@ pub fn decode_into<R: Threads + Sync, G: Gate + Sync>(
     workers: u8,
     gate: &G,
 ) -> Result<Blob, Memory>
-    requires mds { IsMds code.now }
-    requires count { length pieces.now + 2 ≡ code.now.width }
-    requires ascending { AllPairs IsBefore pieces.now }
-    requires in_width { All (λ x. x.cloud < code.now.width) pieces.now }
-    requires long { All (IsLong (chunk_size len code.now.width)) pieces.now }
+    requires enough { AreEnough code.now len pieces.now }
     requires some_worker { 1 ≤ workers }
     requires few_workers { workers ≤ 16 }
-    ensures solved { IfOk result (IsSolution code.now len pieces.now) }
-    ensures length { IfOk result (λ file. length file ≡ len) }
-    ensures file { IfOk result (λ file. (v : List ℕ) → AreBytes v → length v ≡ len → All (IsPieceOf code.now v) pieces.now → file ≡ v) }
+    ensures { IfOk result (IsDecoded code.now len pieces.now) }
 {
     told_chunks(pieces);
     let size = chunk_size(len, code.width()) as usize;

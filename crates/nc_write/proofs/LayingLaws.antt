@@ -15,7 +15,7 @@ use Rattle.nc_write.specs.declared.sealing.Placed.{Placed}
 use Rattle.nc_write.specs.declared.sealing.RowWrites.{RowWrites}
 use Rattle.nc_write.specs.declared.sealing.VersionWrites.{VersionWrites}
 use Rattle.nc_write.specs.Laying.{AreFinished, AreLaidWrites, AreVersionLaid, FinishesVersion, Fits, finished_write, laid_write}
-use Rattle.nc_write.specs.Writes.{AreChunkWrites, AreMetaWrites, AreVersionWrites, chunk_key, chunk_write, clouds_of}
+use Rattle.nc_write.specs.Writes.{AreChunkWrites, AreMetaWrites, AreVersionWrites, AreWritesBy, chunk_key, chunk_write, clouds_of}
 
 module _ (n : ℕ) (name : List ℕ) (m : Live) (r : ℕ) where
   -- one more
@@ -85,28 +85,16 @@ module _ (n : ℕ) (name : List ℕ) (m : Live) (r : ℕ) where
   row_finished chunks old new laid done = finished_all chunks old new laid.writes_are laid.fits done
 
 -- rows, and the metadata beside them
-module _ (n : ℕ) (name : List ℕ) (m : Live) (zeros ones : List Placed) (rows : RowWrites) (w : VersionWrites) (live : w.live ≡ m) (first : w.first ≡ rows.first)
-    (second : w.second ≡ rows.second) (metas : AreMetaWrites n name (meta.Live m) w.metas.items) (ascend : AreAscending (λ c. c) n (clouds_of zeros)) (same : clouds_of ones ≡ clouds_of zeros) where
-  metas_are : AreMetaWrites n name (meta.Live w.live) w.metas.items
-  metas_are = subst (λ (l : Live). AreMetaWrites n name (meta.Live l) w.metas.items) (sym live) metas
-
-  pub laid_with : AreLaidWrites n name m 0 zeros rows.first.items → AreLaidWrites n name m 1 ones rows.second.items → AreVersionLaid n name zeros ones w
-  laid_with row_0 row_1 = record {
-    ascend = ascend;
-    same = same;
-    row_0 = subst (λ (l : Live). AreLaidWrites n name l 0 zeros w.first.items) (sym live) (subst (λ v. AreLaidWrites n name m 0 zeros v.items) (sym first) row_0);
-    row_1 = subst (λ (l : Live). AreLaidWrites n name l 1 ones w.second.items) (sym live) (subst (λ v. AreLaidWrites n name m 1 ones v.items) (sym second) row_1);
-    metas_are = metas_are;
-  }
-
-  pub made_with : AreChunkWrites n name m 0 zeros rows.first.items → AreChunkWrites n name m 1 ones rows.second.items → AreVersionWrites n name zeros ones w
-  made_with row_0 row_1 = record {
-    ascend = ascend;
-    same = same;
-    row_0 = subst (λ (l : Live). AreChunkWrites n name l 0 zeros w.first.items) (sym live) (subst (λ v. AreChunkWrites n name m 0 zeros v.items) (sym first) row_0);
-    row_1 = subst (λ (l : Live). AreChunkWrites n name l 1 ones w.second.items) (sym live) (subst (λ v. AreChunkWrites n name m 1 ones v.items) (sym second) row_1);
-    metas_are = metas_are;
-  }
+pub version_with : (Row : Live → ℕ → List Placed → List Job → Type 0) (n : ℕ) (name : List ℕ) (m : Live) (zeros ones : List Placed) (rows : RowWrites) (w : VersionWrites) → w.live ≡ m
+    → w.first ≡ rows.first → w.second ≡ rows.second → AreMetaWrites n name (meta.Live m) w.metas.items → AreAscending (λ c. c) n (clouds_of zeros) → clouds_of ones ≡ clouds_of zeros
+    → Row m 0 zeros rows.first.items → Row m 1 ones rows.second.items → AreWritesBy Row n name zeros ones w
+version_with Row n name m zeros ones rows w live first second metas ascend same row_0 row_1 = record {
+  ascend = ascend;
+  same = same;
+  row_0 = subst (λ (l : Live). Row l 0 zeros w.first.items) (sym live) (subst (λ v. Row m 0 zeros v.items) (sym first) row_0);
+  row_1 = subst (λ (l : Live). Row l 1 ones w.second.items) (sym live) (subst (λ v. Row m 1 ones v.items) (sym second) row_1);
+  metas_are = subst (λ (l : Live). AreMetaWrites n name (meta.Live l) w.metas.items) (sym live) metas;
+}
 
 -- a version that was laid out, once its frames are finished
 pub version_finished : (n : ℕ) (name : List ℕ) (zeros ones : List Placed) (w done : VersionWrites) → AreVersionLaid n name zeros ones w → FinishesVersion w done → AreVersionWrites n name zeros ones done

@@ -4,18 +4,16 @@ use Rattle.std.specs.Option.{option_map}
 use Rattle.nc_name.specs.Keys.{key_text}
 use Rattle.nc_frame.specs.Frames.{HasFrame, finished, laid_frame}
 use Rattle.nc_meta.specs.declared.meta.Live.{Live}
-use Rattle.nc_meta.specs.declared.meta.Meta.TheVariants as meta
 use Rattle.nc_nextloss.specs.GoodCodes.{GoodParts}
 use Rattle.nc_meta.specs.declared.meta.Meta.{Meta}
 use Rattle.nc_cloud.specs.declared.fleet.Job.{Job}
 use Rattle.nc_cloud.specs.Contents.{Write}
-use Rattle.nc_cloud.specs.Deciding.{AreAscending}
 use Rattle.nc_cloud.specs.Fleet.{write, writes}
 use Rattle.nc_write.specs.declared.sealing.Placed.{Placed}
 use Rattle.nc_write.specs.declared.sealing.RowWrites.{RowWrites}
 use Rattle.nc_write.specs.declared.sealing.VersionWrites.{VersionWrites}
 use Rattle.nc_write.specs.Putting.{IsPutOf}
-use Rattle.nc_write.specs.Writes.{AreMetaWrites, chunk_key, clouds_of}
+use Rattle.nc_write.specs.Writes.{AreWritesBy, chunk_key}
 
 -- ---- laid out
 
@@ -36,13 +34,9 @@ pub record AreLaidWrites (n : ℕ) (name : List ℕ) (m : Live) (r : ℕ) (chunk
   pub writes_are : writes jobs ≡ map (laid_write n name m r) chunks
   pub fits : All (Fits n name m r) chunks
 
--- those of a version with these new chunks, one of each row for each of some clouds, and its metadata on all
-pub record AreVersionLaid (n : ℕ) (name : List ℕ) (zeros ones : List Placed) (w : VersionWrites) : Type 0 where
-  pub ascend : AreAscending (λ c. c) n (clouds_of zeros)
-  pub same : clouds_of ones ≡ clouds_of zeros
-  pub row_0 : AreLaidWrites n name w.live 0 zeros w.first.items
-  pub row_1 : AreLaidWrites n name w.live 1 ones w.second.items
-  pub metas_are : AreMetaWrites n name (meta.Live w.live) w.metas.items
+-- those of a version
+abbrev pub AreVersionLaid : ℕ → List ℕ → List Placed → List Placed → VersionWrites → Type 0
+AreVersionLaid n name = AreWritesBy (AreLaidWrites n name) n name
 
 -- those of some version
 pub record IsLaid (n : ℕ) (w : VersionWrites) : Type 0 where

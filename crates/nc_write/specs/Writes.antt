@@ -45,14 +45,18 @@ pub record AreMetaWrites (n : ℕ) (name : List ℕ) (m : Meta) (jobs : List Job
   pub writes_are : writes jobs ≡ row (meta_write n name m) 0 n
   pub whole : All (λ j. Whole j.bytes) jobs
 
--- All writes of a version with these new chunks, one of each row for each of some clouds: a put's on all clouds, a repair's on one.
--- There are three rounds: row 0, row 1, and the metadata on all clouds.
-pub record AreVersionWrites (n : ℕ) (name : List ℕ) (zeros ones : List Placed) (w : VersionWrites) : Type 0 where
+-- All writes of a version with these new chunks, one of each row for each of some clouds: a put's are on all clouds, a repair's on one.
+-- There are three rounds: row 0, row 1, and the metadata on all clouds. The writes of a row's chunks are as `Row` says.
+pub record AreWritesBy (Row : Live → ℕ → List Placed → List Job → Type 0) (n : ℕ) (name : List ℕ) (zeros ones : List Placed) (w : VersionWrites) : Type 0 where
   pub ascend : AreAscending (λ c. c) n (clouds_of zeros)
   pub same : clouds_of ones ≡ clouds_of zeros
-  pub row_0 : AreChunkWrites n name w.live 0 zeros w.first.items
-  pub row_1 : AreChunkWrites n name w.live 1 ones w.second.items
+  pub row_0 : Row w.live 0 zeros w.first.items
+  pub row_1 : Row w.live 1 ones w.second.items
   pub metas_are : AreMetaWrites n name (meta.Live w.live) w.metas.items
+
+-- each of a whole frame
+abbrev pub AreVersionWrites : ℕ → List ℕ → List Placed → List Placed → VersionWrites → Type 0
+AreVersionWrites n name = AreWritesBy (AreChunkWrites n name) n name
 
 -- those of a version of the name, whatever the chunks are
 pub record AreWritesOf (n : ℕ) (name : List ℕ) (w : VersionWrites) : Type 0 where
