@@ -52,10 +52,18 @@ pub(crate) fn try_beside<R: Threads + Sync, F: Fleet>(
         rt,
         &mut move || room_for(alloc, width, len),
         &mut ||
-            requires { IsSync R.row × F.ready × (4 ≤ F.clouds fleet.now) × (F.clouds fleet.now ≤ 10) × IsLive (F.clouds fleet.now) live.now × (1 ≤ workers) }
-            ensures tried { IfOk result (λ pieces. HasTriedAll F.Fleet name.entry.now live.entry.now fleet.entry.now fleet.exit.now whys.entry.now whys.exit.now pieces.items) }
+            requires sync { IsSync R.row }
+            requires ready { F.ready }
+            requires wide { 4 ≤ F.clouds fleet.now }
+            requires narrow { F.clouds fleet.now ≤ 10 }
+            requires live { IsLive (F.clouds fleet.now) live.now }
+            requires some_worker { 1 ≤ workers }
+            ensures tried { IfOk result
+                (λ pieces. HasTriedAll F.Fleet name.entry.now live.entry.now
+                fleet.entry.now fleet.exit.now whys.entry.now whys.exit.now pieces.items) }
             ensures looked { OnlyLooked F.Fleet fleet.entry.now fleet.exit.now }
-            ensures stops { Stops F.Fleet fleet.entry.now fleet.exit.now (λ G. G ≡ F.held fleet.entry.now) }
+            ensures stops { Stops F.Fleet fleet.entry.now fleet.exit.now
+                (λ G. G ≡ F.held fleet.entry.now) }
         { try_clouds(rt, alloc, fleet, name, live, whys, workers) },
     );
     take_room(room, made);

@@ -36,11 +36,15 @@ pub(crate) fn finish_rows<R: Threads + Sync>(
     thread::join_mut(
         rt,
         &mut ||
-            requires { IsSync R.row × (1 ≤ half) × All (λ j. 32 ≤ length j.bytes) first.items }
+            requires sync { IsSync R.row }
+            requires some_workers { 1 ≤ half }
+            requires long { All (λ j. 32 ≤ length j.bytes) first.items }
             ensures { AreFinished first.entry.items first.exit.items }
         { finish_row(rt, alloc, &mut first, half) },
         &mut ||
-            requires { IsSync R.row × (1 ≤ half) × All (λ j. 32 ≤ length j.bytes) second.items }
+            requires sync { IsSync R.row }
+            requires some_workers { 1 ≤ half }
+            requires long { All (λ j. 32 ≤ length j.bytes) second.items }
             ensures { AreFinished second.entry.items second.exit.items }
         { finish_row(rt, alloc, &mut second, half) },
     );

@@ -70,12 +70,18 @@ fn write_beside<R: Threads + Sync, F: Fleet>(
     let (_, answer) = thread::join_mut(
         rt,
         &mut ||
-            requires { IsSync R.row × (1 ≤ workers) × All (λ j. 32 ≤ length j.bytes) next.items }
+            requires sync { IsSync R.row }
+            requires some_workers { 1 ≤ workers }
+            requires long { All (λ j. 32 ≤ length j.bytes) next.items }
             ensures { AreFinished next.entry.items next.exit.items }
         { finish_row(rt, alloc, &mut next, workers) },
         &mut ||
-            requires { F.ready × AreAscending (λ j. j.cloud) (F.clouds fleet.now) row.items × All (λ j. Whole j.bytes) row.items }
-            ensures { (ended : List JobValue) × Wrote F.Fleet (writes row.entry.items) ended fleet.entry.now fleet.exit.now result }
+            requires ready { F.ready }
+            requires ascending { AreAscending (λ j. j.cloud) (F.clouds fleet.now) row.items }
+            requires whole { All (λ j. Whole j.bytes) row.items }
+            ensures { (ended : List JobValue)
+                × Wrote F.Fleet (writes row.entry.items) ended
+                fleet.entry.now fleet.exit.now result }
         { write_row(fleet, mem::replace(&mut row, Vec::new(alloc))) },
     );
     (next, answer)
