@@ -7,7 +7,7 @@ use Rattle.std.specs.List.{concat, range_with_len}
 use Rattle.nc_mix.specs.declared.strips.Strip.{Strip}
 use Rattle.nc_mix.specs.Mixing.{mixed_byte, mixed, mixed_part, mixed_parts}
 use Rattle.nc_bytes.specs.Bytes.{part}
-use Rattle.nc_mix.specs.Strips.{AllMix, Follow, HasRoom, HoldParts, IsMixed, Mixes, part_in}
+use Rattle.nc_mix.specs.Strips.{AllMix, Follow, HasRoom, HoldParts, IsMade, IsMixed, LiesWithin, Mixes, part_in}
 use Rattle.nc_mix.proofs.Mixes.{length-part}
 
 -- the part of all bytes is the mix
@@ -83,6 +83,24 @@ follow_on rows sources at end (before ∷ old) (strip ∷ new) mix follow =
     let rest : Follow (at + before.count) new end =
     follow_on rows sources (at + before.count) end old new others follow.1 in
     (first.start ∙ follow.0, subst (λ n. Follow (at + n) new end) (sym first.count) rest)
+
+-- strips that are made have room for a part of each row
+pub made_room : (rows sources : List (List ℕ)) (size : ℕ) (old new : List Strip) →
+    All (LiesWithin size) old → AllMix rows sources old new → All IsMade new →
+    All (HasRoom (length rows) size) new
+made_room rows sources size old new fits mix made i d h =
+    let within : i < length old = let same = mix.same_length in omega (arith, same, h) in
+    let mixes : Mixes rows sources (get_or old i d) (get_or new i d) = mix.each i d within in
+    let lies : LiesWithin size (get_or old i d) = fits i d within in
+    let start = mixes.start in
+    let count = mixes.count in
+    record { fits = omega (arith, lies, start, count); room = mixes.room (made i d h) }
+
+-- and hold the parts of all mixes
+pub made_mixed : (rows sources : List (List ℕ)) (old new : List Strip) →
+    AllMix rows sources old new → All IsMade new → All (IsMixed rows sources) new
+made_mixed rows sources old new mix made i d h =
+    (mix.each i d (let same = mix.same_length in omega (arith, same, h))).mixed (made i d h)
 
 -- where there is room for a part of each row, there are as many parts
 pub hold_parts : (rows size : ℕ) (strips : List Strip) → All (HasRoom rows size) strips →

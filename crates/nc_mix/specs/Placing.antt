@@ -6,10 +6,6 @@ use Rattle.nc_mix.specs.declared.strips.Strip.{Strip}
 use Rattle.nc_mix.specs.Mixing.{mixed_part}
 use Rattle.nc_mix.specs.Strips.{part_in}
 
--- the strip's part lies within a sum of so many bytes
-abbrev pub LiesWithin : ℕ → Strip → Type 0
-LiesWithin size strip = strip.start + strip.count ≤ size
-
 -- the part is written over what a sum holds from start on
 abbrev pub put_at : ℕ → List ℕ → List ℕ → List ℕ
 put_at start part sum = take start sum ++ (part ++ drop (start + length part) sum)

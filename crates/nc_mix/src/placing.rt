@@ -3,8 +3,8 @@ ghost use Rattle.std.specs.Borrow.{Bor};
 ghost use Rattle.nc_native.specs.Native.{AllLong};
 ghost use Rattle.nc_mix.specs.Mixing.{lent};
 ghost use Rattle.nc_mix.specs.Decoding.{solved};
-ghost use Rattle.nc_mix.specs.Strips.{HasRoom, HoldsPart};
-ghost use Rattle.nc_mix.specs.Placing.{ArePlaced, LiesWithin, placed, put_at};
+ghost use Rattle.nc_mix.specs.Strips.{HasRoom, HoldsPart, LiesWithin};
+ghost use Rattle.nc_mix.specs.Placing.{ArePlaced, placed, put_at};
 
 use crate::gates::Gate;
 use crate::strips::{Strip, mix_block};

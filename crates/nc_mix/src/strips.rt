@@ -1,8 +1,8 @@
-ghost use Rattle.std.specs.Prelude.{◌≡◌, ◌*◌, ◌<◌, ◌≤◌, All, length, IfOk, OnOk};
+ghost use Rattle.std.specs.Prelude.{◌≡◌, ◌*◌, ◌<◌, ◌≤◌, All, true, length, IfOk};
 ghost use Rattle.std.specs.Borrow.{Bor};
 ghost use Rattle.nc_native.specs.Native.{AllLong};
 ghost use Rattle.nc_mix.specs.Mixing.{lent};
-ghost use Rattle.nc_mix.specs.Strips.{AllMix, Follow, HasRoom, IsMixed, Mixes};
+ghost use Rattle.nc_mix.specs.Strips.{AllMix, Follow, HasRoom, IsMade, IsMixed, LiesWithin, Mixes};
 
 use crate::adding::mix_parts;
 use crate::gates::Gate;
@@ -26,6 +26,8 @@ pub struct Strip {
     pub start: usize,
     /// The length of each part.
     pub count: usize,
+    /// Memory was found for the parts, and they are made.
+    pub made: bool,
     pub bytes: Vec<u8>,
 }
 
@@ -38,6 +40,7 @@ pub fn strips_for(alloc: Global, workers: u8, size: usize) -> Result<Vec<Strip>,
         let strip = Strip {
             start: 0,
             count: 0,
+            made: false,
             bytes: Vec::new(alloc),
         };
         if strips.push(strip).is_err() {
@@ -60,7 +63,8 @@ fn strip_count(workers: u8, size: usize) -> usize
     }
 }
 
-/// Makes the next block of all mixes, from `at` on, cut among the strips, and tells where it ends.
+/// Makes the next block of all mixes, from `at` on, cut among the strips, and tells where it ends. `Memory` says that none was found
+/// for some strip.
 pub fn mix_block<R: Threads + Sync, G: Gate + Sync>(
     rt: &R,
     strips: &mut [Strip],
@@ -85,9 +89,13 @@ pub fn mix_block<R: Threads + Sync, G: Gate + Sync>(
     let part = (size - at)
         .div_ceil(strips.len())
         .min(longest_part(rows.len()));
-    let end = plan(strips, rows.len(), size, at, part)?;
+    let end = plan(strips, size, at, part);
     mix_strips(rt, strips, sources, rows, size, workers, gate);
-    Ok(end)
+    if are_made(strips) {
+        Ok(end)
+    } else {
+        Err(Memory)
+    }
 }
 
 /// How many bytes of each of so many mixes a strip has at most.
@@ -97,44 +105,29 @@ fn longest_part(rows: usize) -> usize
     (STRIP / rows.max(1)).max(1)
 }
 
-/// Gives each strip the next part, and room for it. Tells where the last part ends.
-fn plan(
-    strips: &mut [Strip],
-    rows: usize,
-    size: usize,
-    at: usize,
-    part: usize,
-) -> Result<usize, Memory>
+/// Gives each strip the next part. Tells where the last part ends.
+fn plan(strips: &mut [Strip], size: usize, at: usize, part: usize) -> usize
     requires within { at ≤ size }
-    ensures room { IfOk result (λ end. All (HasRoom rows size) strips.new) }
-    ensures follow { IfOk result (Follow at strips.new) }
-    ensures up { IfOk result (λ end. at ≤ end) }
-    ensures on { IfOk result (λ end. 0 < length strips.old → 0 < part → at < size → at < end) }
-    ensures within { IfOk result (λ end. end ≤ size) }
+    ensures fits { All (LiesWithin size) strips.new }
+    ensures follow { Follow at strips.new result }
+    ensures up { at ≤ result }
+    ensures on { 0 < length strips.old → 0 < part → at < size → at < result }
+    ensures within { result ≤ size }
 {
     let Some((strip, others)) = strips.split_first_mut() else {
-        return Ok(at);
+        return at;
     };
     let count = part.min(size - at);
-    give(strip, rows, at, count)?;
-    plan(others, rows, size, at + count, part)
+    strip.start = at;
+    strip.count = count;
+    plan(others, size, at + count, part)
 }
 
-/// Gives the strip a part, and room for it.
-fn give(strip: &mut Strip, rows: usize, start: usize, count: usize) -> Result<(), Memory>
-    ensures start { OnOk result (strip.new.start ≡ start) }
-    ensures count { OnOk result (strip.new.count ≡ count) }
-    ensures room { OnOk result (length strip.new.bytes.items ≡ rows * count) }
+/// Whether the parts of all strips are made.
+fn are_made(strips: &[Strip]) -> bool
+    ensures { result ≡ true → All IsMade strips.now }
 {
-    let Some(room) = rows.checked_mul(count) else {
-        return Err(Memory);
-    };
-    strip.start = start;
-    strip.count = count;
-    if strip.bytes.resize(room, 0).is_err() {
-        return Err(Memory);
-    }
-    Ok(())
+    strips.iter().all(|strip| strip.made)
 }
 
 /// Makes the parts of all strips, by up to `workers` threads.
@@ -150,7 +143,7 @@ fn mix_strips<R: Threads + Sync, G: Gate + Sync>(
     requires some_worker { 1 ≤ workers }
     requires few { length (lent sources.now) ≤ 16 }
     requires long { AllLong size (lent sources.now) }
-    requires room { All (HasRoom (length rows.now) size) strips.old }
+    requires fits { All (LiesWithin size) strips.old }
     ensures { AllMix rows.now (lent sources.now) strips.old strips.new }
 {
     thread::for_each_mut(
@@ -161,7 +154,7 @@ fn mix_strips<R: Threads + Sync, G: Gate + Sync>(
     );
 }
 
-/// Makes the parts of a strip.
+/// Makes the parts of a strip, where memory is found for them.
 fn mix_strip<G: Gate>(
     strip: &mut Strip,
     sources: &[&[u8]],
@@ -171,18 +164,33 @@ fn mix_strip<G: Gate>(
 )
     requires few { length (lent sources.now) ≤ 16 }
     requires long { AllLong size (lent sources.now) }
-    requires room { HasRoom (length rows.now) size strip.old }
+    requires fits { LiesWithin size strip.old }
     ensures { Mixes rows.now (lent sources.now) strip.old strip.new }
 {
     if strip.count > 0 {
         gate.enter();
     }
-    mix_parts(
-        &mut strip.bytes,
-        sources,
-        rows,
-        size,
-        strip.start,
-        strip.count,
-    );
+    make_room(strip, rows.len());
+    if strip.made {
+        mix_parts(
+            &mut strip.bytes,
+            sources,
+            rows,
+            size,
+            strip.start,
+            strip.count,
+        );
+    }
+}
+
+/// Makes room for a part of each of so many mixes, where memory is found for it.
+fn make_room(strip: &mut Strip, rows: usize)
+    ensures start { strip.new.start ≡ strip.old.start }
+    ensures count { strip.new.count ≡ strip.old.count }
+    ensures room { strip.new.made ≡ true → length strip.new.bytes.items ≡ rows * strip.old.count }
+{
+    strip.made = match rows.checked_mul(strip.count) {
+        Some(room) => strip.bytes.resize(room, 0).is_ok(),
+        None => false,
+    };
 }
