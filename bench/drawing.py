@@ -6,6 +6,7 @@ Bar = collections.namedtuple("Bar", "label ratio aim")
 
 LABELS, BARS, NUMBERS = 400, 420, 60
 TOP, STEP, THICK = 48, 22, 14
+OVER_LINES = 'stroke="#fff" stroke-width="4" paint-order="stroke"'
 REACHED, MISSED, PLAIN = "#2e7d32", "#c62828", "#4878a8"
 
 
@@ -17,13 +18,13 @@ def colour(bar):
 
 
 def drawn_bar(bar, place, scale):
-    """A bar, its label before it and its number behind it; its aim is a stroke across it."""
+    """A bar, its label before it, and its number behind it and its aim, which is a stroke."""
     y = TOP + STEP * place
-    end = LABELS + bar.ratio * scale
+    end = LABELS + max(bar.ratio, bar.aim or 0) * scale
     lines = [
         f'<text x="{LABELS - 8}" y="{y + 11}" text-anchor="end">{escape(bar.label)}</text>',
         f'<rect x="{LABELS}" y="{y}" width="{bar.ratio * scale:.1f}" height="{THICK}" fill="{colour(bar)}"/>',
-        f'<text x="{end + 6:.1f}" y="{y + 11}">{bar.ratio:.2f}</text>',
+        f'<text x="{end + 6:.1f}" y="{y + 11}" {OVER_LINES}>{bar.ratio:.2f}</text>',
     ]
     if bar.aim is not None:
         x = LABELS + bar.aim * scale
