@@ -45,11 +45,14 @@ def prepare():
 
 
 def repeated(name, length):
-    """A file of so many bytes: the file, over and over."""
-    with open(file, "rb") as source, open(f"{scratch}/{name}", "wb") as sink:
-        given = source.read()
-        sink.write((given * (length // size + 1))[:length])
-    return f"{scratch}/{name}"
+    """A file of so many bytes: the file, over and over. It isn't read as a whole: no peak is less than that of the script."""
+    path = f"{scratch}/{name}"
+    with open(path, "wb") as sink:
+        while sink.tell() < length:
+            with open(file, "rb") as source:
+                shutil.copyfileobj(source, sink)
+    os.truncate(path, length)
+    return path
 
 
 # what is timed, by name: the words, and the input
